@@ -36,7 +36,7 @@ GROUPS = [
     ('Matches that split a codepoint', 'nfa_engines::empty', 'nfa_search_base', '',
      'skip_splits_fwd skip_splits_fwd_by_ref skip_splits_rev skip_splits_rev_by_ref'),
     ('Whether an NFA records its bounds', 'nfa_match_spans', 'nfa_match_spans', '', 'records_match_spans'),
-    ('The bytes that each match begins with', 'nfa_prefix', 'nfa_prefix', 'Literals FewBytes RequiredByte',
+    ('The bytes that each match begins with', 'nfa_prefix', 'nfa_prefix', 'Literals FewBytes RequiredBytes',
      'literal_prefix find_prefix'),
     ('Fewer captures', 'nfa_captures', 'nfa_captures', 'WhichCaptures', 'keep_captures'),
     ('The lazy DFA', 'nfa_lazy_dfa', 'nfa_lazy_dfa', 'DFA Cache Config Builder StopError Window', ''),
@@ -51,7 +51,7 @@ GROUPS = [
 ]
 
 # Crates that have public names which no group lists: those names, or none for all, which only engines use.
-FOR_ENGINES = {'nfa_search_base': None, 'nfa_prefix': {'Move', 'only_move', 'ReachedStates', 'SingleBytes'}}
+FOR_ENGINES = {'nfa_search_base': None, 'nfa_prefix': {'Move', 'only_move', 'ReachedStates', 'SingleBytes', 'Cut', 'Passed', 'walk'}}
 
 # The modules of laws: empty functions whose contracts are theorems.
 LAWS = [('nfa_engines::laws', 'nfa_engines'), ('nfa_choice::laws', 'nfa_choice'),

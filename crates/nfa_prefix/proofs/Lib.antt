@@ -6,3 +6,4 @@ pub mod PrefixLemmas
 pub mod PositionLemmas
 pub mod ReachedLemmas
 pub mod RequiredLemmas
+pub mod WalkLemmas

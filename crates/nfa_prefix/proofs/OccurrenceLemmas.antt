@@ -2,7 +2,7 @@
 use Rattle.std.proofs.lemmas.List.Edits.{get_or-between, length-between}
 use Rattle.memchr.specs.Find.{FindsNeedle, OccursAt}
 use Rattle.nfa_paths.proofs.Common.{◌≡◌, ◌∙◌, ℕ, zero, suc, ◌+◌, ◌-◌, ◌<◌, ◌≤◌, List, [], ◌∷◌, length, take, get_or, refl, sym, ap, subst, arith, None, Some, slice_get, slice_range, get_or_from_slice_get, slice_get-get_or, ◌++◌, append_assoc, Bool, true, false, ◌==◌, if◌then◌else◌, option_to_list, option_map_or, append-nil, length-append, take-append-le, take_all, Transition, Automaton, LeadsBelow, Node, node_at, ByteRange, Sparse, Look, Capture}
-use Rattle.nfa_prefix.specs.Prefixes.{IsFirstOccurrence, OccursBefore, OccursNowhere, bytes_from, move_over, only_move, prefix_of}
+use Rattle.nfa_prefix.specs.Prefixes.{IsFirstOccurrence, OccursBefore, OccursNowhere, bytes_from, literal_at, move_over, only_move}
 use Rattle.nfa_prefix.specs.declared.only_move.Move.{Move}
 
 -- no bytes occur at each position up to the end
@@ -106,10 +106,10 @@ module _ (haystack bytes : List ℕ) (from end : ℕ) (within : end ≤ length h
         (occurs-part (j - from) (subst (OccursBefore haystack end bytes) e h));
   }
 
-module _ (nfa : Automaton) where
-  -- bytes that were collected, and those of this many moves from a state on, are the prefix
+module _ (nfa : Automaton) (from : ℕ) where
+  -- bytes that were collected, and those of this many moves from a state on, are the literal of `from`
   pub record IsCollected (bytes : List ℕ) (moves state : ℕ) : Type 0 where
-    pub whole : take 32 (bytes ++ bytes_from nfa moves state) ≡ prefix_of nfa
+    pub whole : take 32 (bytes ++ bytes_from nfa moves state) ≡ literal_at nfa from
     pub short : length bytes ≤ 32
     pub below : state < length nfa.states
 
@@ -119,14 +119,14 @@ module _ (nfa : Automaton) where
 
   -- no move is left
   pub collected-end : (bytes : List ℕ) (moves state : ℕ) → IsCollected bytes moves state → moves ≡ 0
-      → bytes ≡ prefix_of nfa
+      → bytes ≡ literal_at nfa from
   unfolding bytes_from
   collected-end bytes moves state h none =
       sym (first-bytes bytes (bytes_from nfa moves state) h.short (ap (λ m. bytes_from nfa m state) none)) ∙ h.whole
 
   -- the state has no only move
   pub collected-stop : (bytes : List ℕ) (moves state : ℕ) → IsCollected bytes moves state
-      → only_move (node_at nfa state) ≡ None → bytes ≡ prefix_of nfa
+      → only_move (node_at nfa state) ≡ None → bytes ≡ literal_at nfa from
   unfolding bytes_from
   collected-stop bytes zero state h e = collected-end bytes zero state h refl
   collected-stop bytes (suc moves) state h e =
@@ -135,13 +135,13 @@ module _ (nfa : Automaton) where
 
   -- there is room for no more bytes
   pub collected-full : (bytes : List ℕ) (moves state : ℕ) → IsCollected bytes moves state → length bytes ≡ 32
-      → bytes ≡ prefix_of nfa
+      → bytes ≡ literal_at nfa from
   collected-full bytes moves state h full =
       sym (take-append-le 32 bytes (bytes_from nfa moves state) (omega arith) ∙ take_all 32 bytes h.short) ∙ h.whole
 
   move-whole : (bytes : List ℕ) (moves rest state : ℕ) (m : Move) → IsCollected bytes moves state → moves ≡ suc rest
       → only_move (node_at nfa state) ≡ Some m
-      → take 32 ((bytes ++ option_to_list m.byte) ++ bytes_from nfa rest m.next) ≡ prefix_of nfa
+      → take 32 ((bytes ++ option_to_list m.byte) ++ bytes_from nfa rest m.next) ≡ literal_at nfa from
   unfolding bytes_from
   move-whole bytes moves rest state m h count e =
       ap (take 32) (append_assoc bytes (option_to_list m.byte) (bytes_from nfa rest m.next))

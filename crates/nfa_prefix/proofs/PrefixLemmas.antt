@@ -82,7 +82,7 @@ match-stays _ is = absurd (cc is)
 
 module _ (nfa : Automaton) (x : Search) where
   -- each list that follows edges from the state to a Match reads these bytes first
-  abbrev Reads : ℕ → List ℕ → Type 0
+  abbrev pub Reads : ℕ → List ℕ → Type 0
   Reads state bytes =
       (at : ℕ) (end : Pair) (p : List Pair) → HeadIs (state, at) p → Linked (edges nfa x) p → EndsWith end p
       → IsMatch nfa end → at ≤ x.end → OccursBefore x.haystack x.end bytes at
@@ -108,7 +108,7 @@ module _ (nfa : Automaton) (x : Search) where
           occurs-cons x.haystack x.end b bytes at (byte-read x at b leads.0)
           (later (at + 1) end (w ∷ p) leads.1 linked.1 ends accepts (omega arith))
 
-  reads-bytes : (moves state : ℕ) → Reads state (bytes_from nfa moves state)
+  pub reads-bytes : (moves state : ℕ) → Reads state (bytes_from nfa moves state)
   unfolding bytes_from
   reads-bytes zero state = reads-none state
   reads-bytes (suc moves) state = of (only_move (node_at nfa state)) refl (reads-bytes moves)

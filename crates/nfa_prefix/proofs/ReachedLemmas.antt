@@ -1,7 +1,7 @@
 -- States that were reached, and those that a state leads to without one of the bytes.
-use Rattle.nfa_paths.proofs.Common.{◌≡◌, ◌∙◌, ℕ, zero, suc, ◌<◌, ◌≤◌, inl, inr, List, [], ◌∷◌, ◌++◌, length, get_or, set, replicate, refl, sym, ap, subst, arith, All, Bool, true, false, Option, None, Some, Result, Ok, Err, OnOk, is_some, if◌then◌else◌, option_and_then, slice_get, ℕ_discrete, append-nil, append_assoc, length-append, length-set, get_or-set_other, In, Node, Transition, ByteRange, Sparse, Dense, Union, BinaryUnion, first_target, holds_byte, target_on}
+use Rattle.nfa_paths.proofs.Common.{◌≡◌, ◌∙◌, ℕ, zero, suc, ◌<◌, ◌≤◌, ◌⊎◌, inl, inr, List, [], ◌∷◌, ◌++◌, length, get_or, set, replicate, refl, sym, ap, subst, arith, All, Bool, true, false, Option, None, Some, Result, Ok, Err, IfOk, OnOk, is_some, if◌then◌else◌, option_and_then, slice_get, ℕ_discrete, append-nil, append_assoc, length-append, length-set, get_or-set_other, In, Node, Transition, ByteRange, Sparse, Dense, Union, BinaryUnion, first_target, holds_byte, target_on}
 use Rattle.std.proofs.lemmas.List.{get_or_append_left}
-use Rattle.nfa_paths.proofs.MemberLemmas.{In-append, In-append_left, In-append_right}
+use Rattle.nfa_paths.proofs.MemberLemmas.{In-append, In-append_left, In-append_right, same_some}
 use Rattle.nfa_prefix.specs.Reached.{AddsTo, AreMarked, HasOtherTargets, HasTargets}
 
 -- lists that grow
@@ -60,32 +60,21 @@ AreMarked-more marks states s inside h = record {
 
 -- what a state leads to
 
-pub HasOtherTargets-added : {a b : List ℕ} {byte : ℕ} {node : Node} → AddsTo a b → HasOtherTargets a byte node
+pub HasOtherTargets-added : {a b : List ℕ} {byte : Option ℕ} {node : Node} → AddsTo a b → HasOtherTargets a byte node
     → HasOtherTargets b byte node
 HasOtherTargets-added f h = record { others = λ b t n e. In-added f t (h.others b t n e) }
 
-pub HasTargets-added : {a b : List ℕ} {byte : ℕ} {node : Node} → AddsTo a b → HasTargets a byte node
+pub HasTargets-added : {a b : List ℕ} {byte : Option ℕ} {node : Node} → AddsTo a b → HasTargets a byte node
     → HasTargets b byte node
 HasTargets-added f h = record {
   without = λ k d less. In-added f _ (h.without k d less);
   over = HasOtherTargets-added f h.over;
 }
 
-module _ (states : List ℕ) (byte : ℕ) where
-  -- a range with no other byte leads nowhere on another byte
-  pub others-single : (t : Transition) → t.start ≡ byte → t.end ≡ byte → HasOtherTargets states byte (ByteRange t)
-  others-single t start end = record { others = λ b u n e. absurd (grind arith) }
-
-  pub others-next : (t : Transition) → In t.next states → HasOtherTargets states byte (ByteRange t)
-  others-next t i = record { others = λ b u n e. of b u (holds_byte t b) e }
-    where
-      of : (b u : ℕ) (h : Bool) → (if h then Some t.next else None) ≡ Some u → In u states
-      of b u false e = absurd (cc e)
-      of b u true e = let same : t.next ≡ u = cc in subst (λ s. In s states) same i
-
+module _ (states : List ℕ) (byte : Option ℕ) where
   -- the targets of transitions are those of each
   first-others : (ts : List Transition) → All (λ t. HasOtherTargets states byte (ByteRange t)) ts → (b u : ℕ)
-      → ¬ (b ≡ byte) → first_target ts b ≡ Some u → In u states
+      → ¬ (Some b ≡ byte) → first_target ts b ≡ Some u → In u states
   first-others [] all b u n e = absurd (cc e)
   first-others (t ∷ ts) all b u n e =
       of (holds_byte t b) refl (first-others ts (λ k d less. all (suc k) d (omega arith)) b u n) e
@@ -103,7 +92,8 @@ module _ (states : List ℕ) (byte : ℕ) where
   others-all ts all = record { others = first-others ts all }
 
   -- a union leads to its alternates, and reads no byte
-  pub union-targets : (alternates : List ℕ) → All (λ s. In s states) alternates → HasTargets states byte (Union alternates)
+  pub union-targets : (alternates : List ℕ) → All (λ s. In s states) alternates
+      → HasTargets states byte (Union alternates)
   union-targets alternates all = record { without = all; over = record { others = λ b t n e. absurd (cc e) } }
 
   pub pair-targets : (a b : ℕ) → In a states → In b states → HasTargets states byte (BinaryUnion a b)
@@ -141,3 +131,16 @@ In-pushed old new s e = rw e (In-append_right s old (s ∷ []) (inl refl))
 pub none-of : (o : Option ℕ) (b : Bool) → b ≡ is_some o → b ≡ false → o ≡ None
 none-of None b e f = refl
 none-of (Some s) b e f = absurd (cc (e, f))
+
+pub if-ok-then : {T E : Type 0} {P Q : T → Type 0} (r : Result T E) → ((x : T) → P x → Q x) → IfOk r P → IfOk r Q
+if-ok-then (Ok x) each h = each x h
+if-ok-then (Err e) each h = tt
+
+-- whether an option holds a number
+pub tell : (o : Option ℕ) (b : ℕ) → (o ≡ Some b) ⊎ ¬ (o ≡ Some b)
+tell None b = inr (λ e. absurd (cc e))
+tell (Some c) b =
+    elim (ℕ_discrete c b) [
+      | yes e ↦ inl (ap Some e)
+      | no n ↦ inr (λ e. n (same_some c b e))
+    ]

@@ -4,4 +4,5 @@ pub mod Prefixes
 pub mod PrefixLaws
 pub mod Reached
 pub mod RequiredBytes
-pub mod RequiredByteLaws
+pub mod Walks
+pub mod RequiredLaws

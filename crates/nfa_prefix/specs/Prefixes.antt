@@ -39,9 +39,13 @@ module _ (nfa : Automaton) where
   bytes_from (suc moves) state =
       option_map_or (λ m. option_to_list m.byte ++ bytes_from moves m.next) (only_move (node_at nfa state)) []
 
-  -- the bytes from the anchored start on, of at most one move for each state: the first 32 of them
+  -- the bytes from a state on, of at most one move for each state: the first 32 of them
+  abbrev pub literal_at : ℕ → List ℕ
+  literal_at state = take 32 (bytes_from (length nfa.states) state)
+
+  -- those from the anchored start on
   abbrev pub prefix_of : List ℕ
-  prefix_of = take 32 (bytes_from (length nfa.states) nfa.anchored)
+  prefix_of = literal_at nfa.anchored
 
 -- wherever an anchored search has an accepting path, the bytes are in the haystack, before the end of the span
 pub record BeginsWith (nfa : Automaton) (bytes : List ℕ) : Type 0 where

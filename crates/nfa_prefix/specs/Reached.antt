@@ -1,5 +1,5 @@
 -- The states that a walk over an NFA reaches if it may not read one of the bytes.
-use Rattle.std.specs.Prelude.{◌≡◌, ℕ, ◌<◌, ◌++◌, All, Bool, List, Some, false, length, slice_index_or, true}
+use Rattle.std.specs.Prelude.{◌≡◌, ℕ, ◌<◌, ◌++◌, All, Bool, List, Option, Some, false, length, slice_index_or, true}
 use Rattle.nfa_paths.specs.Common.{In, Node, target_on}
 use Rattle.nfa_scan_core.specs.FirstBytes.{epsilon_targets}
 
@@ -18,11 +18,11 @@ pub record AddsTo (old new : List ℕ) : Type 0 where
   pub more : List ℕ
   pub kept : new ≡ old ++ more
 
--- the list has the target of the state on each byte but this one
-pub record HasOtherTargets (states : List ℕ) (byte : ℕ) (node : Node) : Type 0 where
-  pub others : (b t : ℕ) → ¬ (b ≡ byte) → target_on node b ≡ Some t → In t states
+-- the list has the target of the state on each byte, but this one if there is one
+pub record HasOtherTargets (states : List ℕ) (byte : Option ℕ) (node : Node) : Type 0 where
+  pub others : (b t : ℕ) → ¬ (Some b ≡ byte) → target_on node b ≡ Some t → In t states
 
 -- and the states that it leads to without a byte
-pub record HasTargets (states : List ℕ) (byte : ℕ) (node : Node) : Type 0 where
+pub record HasTargets (states : List ℕ) (byte : Option ℕ) (node : Node) : Type 0 where
   pub without : All (λ s. In s states) (epsilon_targets node)
   pub over : HasOtherTargets states byte node

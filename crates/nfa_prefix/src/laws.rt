@@ -9,7 +9,8 @@
 //! ```
 ghost use Rattle.nfa_prefix.specs.PrefixLaws.{FirstStartMovesOn, FirstStartMovesToOccurrence, NothingIsNoAnswer};
 ghost use Rattle.nfa_prefix.specs.PrefixLaws.{NothingIsNoHalfMatch, NothingIsNoMatch, NothingIsNotFound};
-ghost use Rattle.nfa_prefix.specs.RequiredByteLaws.{FirstStartMovesToByte, NothingWithoutByte, NothingWithoutByteAhead};
+ghost use Rattle.nfa_prefix.specs.RequiredLaws.{FirstStartMovesToRequired, NothingWithoutRequired};
+ghost use Rattle.nfa_prefix.specs.RequiredLaws.{NothingWithoutRequiredAhead};
 ghost use Rattle.nfa_prefix.specs.PrefixLaws.{NothingWithoutBytes, NothingWithoutOccurrence, PrefixBegins};
 
 /// Each match of an NFA begins with its prefix, which `literal_prefix` returns: wherever an anchored search has an
@@ -35,21 +36,21 @@ pub fn no_match_without_prefix()
     ensures { NothingWithoutOccurrence }
 {}
 
-/// If each match has a byte that is not ahead of a position, an anchored search there has no accepting path. If it is
-/// ahead of no position between one before which no match starts and another one, no match starts before that either.
-/// The byte is ahead if the haystack has it from the position on, inside the span, with no line feed before it if no
-/// match has one there.
-pub fn starts_without_required_byte_may_be_passed()
-    ensures nothing { NothingWithoutByte }
-    ensures moves { FirstStartMovesToByte }
+/// If each match has some bytes that are not ahead of a position, an anchored search there has no accepting path. If
+/// they are ahead of no position between one before which no match starts and another one, no match starts before that
+/// either. Bytes are ahead if the haystack has them from the position on, inside the span. If no match has a line feed
+/// before them, none may be between.
+pub fn starts_without_required_bytes_may_be_passed()
+    ensures nothing { NothingWithoutRequired }
+    ensures moves { FirstStartMovesToRequired }
 {}
 
-/// If each match has a byte that is ahead of no position from one on before which no match starts, the search has no
-/// accepting path.
+/// If each match has some bytes that are ahead of no position from one on before which no match starts, the search has
+/// no accepting path.
 ///
 /// Premises: neither the search nor the NFA is anchored, and a match may end anywhere.
-pub fn no_match_without_required_byte()
-    ensures { NothingWithoutByteAhead }
+pub fn no_match_without_required_bytes()
+    ensures { NothingWithoutRequiredAhead }
 {}
 
 /// A search without an accepting path has no match, no half match and no pattern, and each slot is `None`. This holds

@@ -1,7 +1,8 @@
-//! What each match of an NFA begins with, and a search for it.
+//! What each match of an NFA begins with or has, and a search for it.
 //!
 //! A search may jump to the first position at which the bytes occur that each match begins with, since no match starts
-//! before it. If they do not occur, nothing matches. The laws say so (`laws`). [`Literals`] says where to begin.
+//! before it. If they do not occur, nothing matches. The laws say so (`laws`), and what bytes mean that each match has
+//! ([`RequiredBytes`]). [`Literals`] says where to begin.
 //!
 //! ```
 //! // NFA of "foo[0-9]+": "foo"
@@ -17,11 +18,12 @@ pub mod literals;
 mod only_move;
 pub mod prefix;
 mod reached;
-pub mod required_byte;
+pub mod required_bytes;
 mod singles;
+mod walk;
 
 pub use few_bytes::FewBytes;
 pub use find::find_prefix;
 pub use literals::Literals;
 pub use prefix::literal_prefix;
-pub use required_byte::RequiredByte;
+pub use required_bytes::RequiredBytes;

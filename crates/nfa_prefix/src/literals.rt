@@ -9,11 +9,11 @@ ghost use Rattle.nfa_prefix.specs.RequiredBytes.{IsRequired};
 use crate::few_bytes::FewBytes;
 use crate::find::find_prefix;
 use crate::laws::{
-    no_match_without_prefix, no_match_without_required_byte, starts_without_prefix_may_be_passed,
-    starts_without_required_byte_may_be_passed,
+    no_match_without_prefix, no_match_without_required_bytes, starts_without_prefix_may_be_passed,
+    starts_without_required_bytes_may_be_passed,
 };
 use crate::prefix::literal_prefix;
-use crate::required_byte::RequiredByte;
+use crate::required_bytes::RequiredBytes;
 use nfa_engines::laws::bytes_may_be_skipped;
 use regex_search_core::Input;
 use std::alloc::{AllocError, Global};
@@ -26,8 +26,8 @@ pub struct Literals {
     prefix: Vec<u8>,
     /// The bytes that a match may begin with.
     first: FewBytes,
-    /// A byte that each match has. It is sought only if there is no prefix and a match may begin with many bytes.
-    required: Option<RequiredByte>,
+    /// Bytes that each match has. They are sought only if there is no prefix and a match may begin with many bytes.
+    required: Option<RequiredBytes>,
 }
 
 impl Literals {
@@ -56,8 +56,8 @@ impl Literals {
     ///
     /// It is the first one at which the prefix of each match occurs. If there is no prefix, it is the first one whose
     /// byte a match may begin with, or the end of the span. If a match may begin with more than three bytes, it is the
-    /// start of the span, or that of the line with the first byte that each match has. Requires that these are literals of the NFA, that neither
-    /// the search nor the NFA is anchored, and that a match may end anywhere.
+    /// start of the span, or that of the line with the first bytes that each match has. Requires that these are literals
+    /// of the NFA, that neither the search nor the NFA is anchored, and that a match may end anywhere.
     ///
     /// ```
     /// // NFA of "foo[0-9]+", and its literals
@@ -88,8 +88,8 @@ impl Literals {
         bytes_may_be_skipped();
         starts_without_prefix_may_be_passed();
         no_match_without_prefix();
-        starts_without_required_byte_may_be_passed();
-        no_match_without_required_byte();
+        starts_without_required_bytes_may_be_passed();
+        no_match_without_required_bytes();
         let haystack = input.haystack();
         if !self.prefix.is_empty() {
             return find_prefix(haystack, from, input.end(), &self.prefix);
@@ -101,17 +101,17 @@ impl Literals {
     }
 }
 
-/// Returns a byte that each match has, unless what matches begin with is something to look for.
+/// Returns bytes that each match has, unless what matches begin with is something to look for.
 fn required_of(
     alloc: Global,
     nfa: &NFA,
     prefix: &[u8],
     first: &FewBytes,
-) -> Result<Option<RequiredByte>, AllocError>
+) -> Result<Option<RequiredBytes>, AllocError>
     ensures { IfOk result (λ found. IfSome found (IsRequired nfa.now)) }
 {
     if prefix.is_empty() && first.are_many() {
-        RequiredByte::new(alloc, nfa)
+        RequiredBytes::new(alloc, nfa)
     } else {
         Ok(None)
     }

@@ -1,9 +1,10 @@
 //! The bytes that each match of an NFA begins with.
-ghost use Rattle.std.specs.Prelude.{◌≡◌, IfOk};
-ghost use Rattle.nfa_prefix.specs.Prefixes.{BeginsWith, prefix_of};
+ghost use Rattle.std.specs.Prelude.{◌≡◌, ◌<◌, IfOk, length};
+ghost use Rattle.nfa_prefix.specs.Prefixes.{BeginsWith, literal_at, prefix_of};
 
 use crate::laws::prefixes_are_read;
 use crate::only_move::only_move;
+use regex_search_core::StateID;
 use std::alloc::{AllocError, Global};
 use thompson_nfa::NFA;
 
@@ -28,19 +29,27 @@ pub fn literal_prefix(alloc: Global, nfa: &NFA) -> Result<Vec<u8>, AllocError>
     ensures begins { IfOk result (λ prefix. BeginsWith nfa.now prefix.items) }
 {
     prefixes_are_read();
-    let mut prefix = Vec::new(alloc);
-    let mut state = nfa.start_anchored();
+    literal_from(alloc, nfa, nfa.start_anchored())
+}
+
+/// Returns the bytes that are read from the state on, as long as each state moves on in one way only: at most 32.
+pub(crate) fn literal_from(alloc: Global, nfa: &NFA, from: StateID) -> Result<Vec<u8>, AllocError>
+    requires { from < length nfa.now.states }
+    ensures { IfOk result (λ literal. literal.items ≡ literal_at nfa.now from) }
+{
+    let mut literal = Vec::new(alloc);
+    let mut state = from;
     for _ in 0..nfa.states().len() {
         let Some(only) = only_move(nfa.state(state)) else {
-            return Ok(prefix);
+            return Ok(literal);
         };
         if let Some(byte) = only.byte {
-            if prefix.len() == MAX_LENGTH {
-                return Ok(prefix);
+            if literal.len() == MAX_LENGTH {
+                return Ok(literal);
             }
-            prefix.push(byte)?;
+            literal.push(byte)?;
         }
         state = only.next;
     }
-    Ok(prefix)
+    Ok(literal)
 }

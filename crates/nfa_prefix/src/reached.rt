@@ -73,9 +73,9 @@ impl ReachedStates {
         Ok(())
     }
 
-    /// Adds the states that this one leads to without a byte, and on another byte than this one. The only error is that
-    /// an allocation failed.
-    pub fn follow(&mut self, state: &State, byte: u8) -> Result<(), AllocError>
+    /// Adds the states that this one leads to without a byte, and on each byte but this one. The only error is that an
+    /// allocation failed.
+    pub fn follow(&mut self, state: &State, byte: Option<u8>) -> Result<(), AllocError>
         requires { LeadsBelow self.old.room (node_of state.now) }
         ensures room { self.new.room ≡ self.old.room }
         ensures adds { OnOk result (AddsTo self.old.states self.new.states) }
@@ -109,20 +109,20 @@ impl ReachedStates {
     }
 
     /// Adds the target of the transition, unless its range has no other byte than this one.
-    fn add_other(&mut self, trans: &Transition, byte: u8) -> Result<(), AllocError>
+    fn add_other(&mut self, trans: &Transition, byte: Option<u8>) -> Result<(), AllocError>
         requires { trans.now.next < self.old.room }
         ensures room { self.new.room ≡ self.old.room }
         ensures adds { OnOk result (AddsTo self.old.states self.new.states) }
         ensures has { OnOk result (HasOtherTargets self.new.states byte (ByteRange trans.now)) }
     {
-        if trans.start == byte && trans.end == byte {
-            return Ok(());
+        match byte {
+            Some(byte) if trans.start == byte && trans.end == byte => Ok(()),
+            _ => self.add(trans.next),
         }
-        self.add(trans.next)
     }
 
     /// Adds the targets of the transitions whose ranges have another byte than this one.
-    fn add_others(&mut self, transitions: &[Transition], byte: u8) -> Result<(), AllocError>
+    fn add_others(&mut self, transitions: &[Transition], byte: Option<u8>) -> Result<(), AllocError>
         requires { All (λ t. t.next < self.old.room) transitions.now }
         ensures room { self.new.room ≡ self.old.room }
         ensures adds { OnOk result (AddsTo self.old.states self.new.states) }
@@ -135,7 +135,11 @@ impl ReachedStates {
     }
 
     /// Adds the targets on each byte but this one.
-    fn add_targets(&mut self, targets: &[Option<StateID>], byte: u8) -> Result<(), AllocError>
+    fn add_targets(
+        &mut self,
+        targets: &[Option<StateID>],
+        byte: Option<u8>,
+    ) -> Result<(), AllocError>
         requires { LeadsBelow self.old.room (Dense targets.now) }
         ensures room { self.new.room ≡ self.old.room }
         ensures adds { OnOk result (AddsTo self.old.states self.new.states) }
@@ -152,19 +156,19 @@ impl ReachedStates {
         &mut self,
         index: usize,
         target: Option<StateID>,
-        byte: u8,
+        byte: Option<u8>,
     ) -> Result<(), AllocError>
         requires { IfSome target (λ s. s < self.old.room) }
         ensures room { self.new.room ≡ self.old.room }
         ensures adds { OnOk result (AddsTo self.old.states self.new.states) }
-        ensures has { OnOk result (¬ (index ≡ byte) → IfSome target (λ s. In s self.new.states)) }
+        ensures has { OnOk result (¬ (Some index ≡ byte) → IfSome target (λ s. In s self.new.states)) }
     {
         let Some(state) = target else {
             return Ok(());
         };
-        if index == byte as usize {
-            return Ok(());
+        match byte {
+            Some(byte) if index == byte as usize => Ok(()),
+            _ => self.add(state),
         }
-        self.add(state)
     }
 }

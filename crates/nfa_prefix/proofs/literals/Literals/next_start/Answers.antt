@@ -41,7 +41,7 @@ returns-in-Some-clause-nothing c =
     let required : IsRequired nfa c.in-Some.required =
     subst (λ o. IfSome o (IsRequired nfa)) c.in-Some.is c.requires.of.has in
     none-then c.first_start.result
-    (λ lacks. c.no_match_without_required_byte.ensures nfa x c.in-Some.required c.args.from c.requires.unbound required
+    (λ lacks. c.no_match_without_required_bytes.ensures nfa x c.in-Some.required c.args.from c.requires.unbound required
     c.requires.first lacks)
     (rw c.haystack-haystack.ensures at (rw c.end-in-Some.ensures.value at c.first_start.ensures.nowhere))
 
@@ -52,6 +52,6 @@ returns-in-Some-clause-first c =
     let required : IsRequired nfa c.in-Some.required =
     subst (λ o. IfSome o (IsRequired nfa)) c.in-Some.is c.requires.of.has in
     some-then c.first_start.result
-    (λ at lacks. c.starts_without_required_byte_may_be_passed.ensures.moves nfa x c.in-Some.required c.args.from at
+    (λ at lacks. c.starts_without_required_bytes_may_be_passed.ensures.moves nfa x c.in-Some.required c.args.from at
     required c.requires.first lacks)
     (rw c.haystack-haystack.ensures at (rw c.end-in-Some.ensures.value at c.first_start.ensures.passed))

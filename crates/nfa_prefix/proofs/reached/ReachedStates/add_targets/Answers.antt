@@ -14,7 +14,7 @@ loop-index-preserved c =
     record {
       room = added.room ∙ before.room;
       adds = AddsTo-then before.adds added.adds;
-      has = below_more (λ k. (t : ℕ) → ¬ (k ≡ c.args.byte) → slice_get xs k ≡ Some (Some t) → In t new) i
+      has = below_more (λ k. (t : ℕ) → ¬ (Some k ≡ c.args.byte) → slice_get xs k ≡ Some (Some t) → In t new) i
           (λ k less t n e. In-added added.adds t (before.has k less t n e))
           (λ t n e.
           let same : target ≡ Some t = c.index-targets-index.is ∙ get_or_from_slice_get xs i (Some t) target e in

@@ -7,6 +7,6 @@ abbrev pub invariant-loop-index : goal.invariant-loop-index
 invariant-loop-index l = record {
   room : l.self.room ≡ l.fn.self.room;
   adds : AddsTo l.fn.self.states l.self.states;
-  has : (k : ℕ) → k < l.index → (t : ℕ) → ¬ (k ≡ l.byte) → slice_get l.targets k ≡ Some (Some t)
+  has : (k : ℕ) → k < l.index → (t : ℕ) → ¬ (Some k ≡ l.byte) → slice_get l.targets k ≡ Some (Some t)
       → In t l.self.states;
 }
