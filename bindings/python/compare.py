@@ -1,0 +1,119 @@
+"""Compares nfa.py with `re` on random patterns and texts on which the two agree by their rules, and tests what differs.
+Prints "python: passed: N questions", or stops at the first difference. `compare.py N` asks so many."""
+import random
+import re
+import sys
+import threading
+
+import nfa
+
+SOURCE = random.Random(5)
+ATOMS = ['a', 'b', 'c', '[ab]', '[^a]', '.', r'\d', r'\w', r'\b', '^', 'é', 'ab', r'\.', '(?:b|ca)']
+LETTERS = 'abc .1é\n'
+
+
+def stop(*said):
+    sys.exit(' '.join(['python:', *map(str, said)]))
+
+
+def piece(depth):
+    """A part of a pattern. What is repeated matches no empty text, since the two differ in empty rounds."""
+    kind = SOURCE.randrange(7 if depth else 3)
+    if kind < 3:
+        return SOURCE.choice(ATOMS)
+    if kind == 3:
+        return ''.join(piece(depth - 1) for _ in range(SOURCE.randrange(1, 4)))
+    if kind == 4:
+        return f'(?:{piece(depth - 1)}|{piece(depth - 1)})'
+    if kind == 5:
+        return f'({piece(depth - 1)})'
+    repeated = SOURCE.choice(['a', 'b', '[ab]', r'\w', 'é', '(?:ab)', '(?:a|bc)'])
+    return repeated + SOURCE.choice(['*', '+', '?', '*?', '+?', '??', '{2}', '{1,2}'])
+
+
+def seen(found):
+    return found and (found.span(), found.groups(), [found.span(group) for group in range(1, found.re.groups + 1)])
+
+
+def ask(pattern, text, flags):
+    mine, theirs = nfa.compile(pattern, flags), re.compile(pattern, int(
+        (re.I if flags & nfa.I else 0) | (re.M if flags & nfa.M else 0) | (re.S if flags & nfa.S else 0)))
+    pos = SOURCE.randrange(len(text) + 1)
+    for call in ['search', 'match', 'fullmatch']:
+        for arguments in [(text,), (text, pos)]:
+            got, wanted = seen(getattr(mine, call)(*arguments)), seen(getattr(theirs, call)(*arguments))
+            if got != wanted:
+                stop(call, repr(pattern), arguments, flags, 'gives', got, 'and not', wanted)
+    wanted = [found.span() for found in theirs.finditer(text)]
+    if any(start == end for start, end in wanted):
+        # The two go on differently after an empty match.
+        return
+    got = [found.span() for found in mine.finditer(text)]
+    if got != wanted:
+        stop('finditer', repr(pattern), repr(text), flags, 'gives', got, 'and not', wanted)
+    for call, arguments in [('findall', ()), ('split', ()), ('split', (1,))]:
+        if getattr(mine, call)(text, *arguments) != getattr(theirs, call)(text, *arguments):
+            stop(call, repr(pattern), repr(text), flags)
+    is_text = isinstance(text, str)
+    for repl in ['<\\g<0>>' if is_text else b'<\\g<0>>', text[:1], lambda found: found.group().upper()]:
+        if mine.subn(repl, text) != theirs.subn(repl, text):
+            stop('subn', repr(pattern), repr(text), flags, repl)
+
+
+def random_questions(count):
+    for number in range(count):
+        pattern = piece(3)
+        text = ''.join(SOURCE.choice(LETTERS) for _ in range(SOURCE.randrange(12)))
+        flags = SOURCE.choice([0, 0, nfa.I, nfa.M, nfa.S])
+        if number % 4 == 0 and pattern.isascii():
+            ask(pattern.encode(), text.encode('latin-1'), flags)
+        else:
+            ask(pattern, text, flags)
+
+
+def want(said, wanted):
+    if said != wanted:
+        stop('gives', said, 'and not', wanted)
+
+
+def written_cases():
+    want([found.span() for found in nfa.finditer('a*', 'baac')], [(0, 0), (1, 3), (4, 4)])
+    want(nfa.search(b'[\xe9]', b'caf\xe9').span(), (3, 4))
+    want(nfa.search('é(?P<rest>.)', 'caféx').groupdict(), {'rest': 'x'})
+    want(nfa.compile('(?P<a>x)(?<b>y)').groupindex, {'a': 1, 'b': 2})
+    want(nfa.sub(r'(?P<a>x)(y)?', r'\2\g<a>\1\\', 'xyx'), r'yxx\xx' + '\\')
+    want(nfa.sub(b'(x)', rb'\1\xe9'.replace(rb'\xe9', b'\xe9'), b'x'), b'x\xe9')
+    want(nfa.fullmatch('a # x', 'a', nfa.X).span(), (0, 1))
+    want(nfa.fullmatch('a|ab', 'ab').span(), (0, 2))
+    want(nfa.search(nfa.escape('a.b-c'), 'a.b-c').span(), (0, 5))
+    want(nfa.match('b', 'ab', ), None)
+    want(nfa.search('(a)|(b)', 'b').lastindex, 2)
+    want(nfa.search('a', 'a\ud800a').span(), (0, 1))
+    for pattern in ['(', 'a{2}{', r'(a)\1', '(?=a)']:
+        try:
+            nfa.compile(pattern)
+        except nfa.error as refused:
+            want(refused.pattern, pattern)
+            want(refused.pos is None, False)
+        else:
+            stop(pattern, 'is not refused')
+    try:
+        nfa.search('a', b'a')
+    except TypeError:
+        pass
+    else:
+        stop('bytes are searched by a pattern of str')
+    word, found = nfa.compile(r'\w+'), []
+    threads = [threading.Thread(target=lambda: found.append(len(word.findall('ab c d')))) for _ in range(4)]
+    for thread in threads:
+        thread.start()
+    for thread in threads:
+        thread.join()
+    want(found, [3] * 4)
+
+
+if __name__ == '__main__':
+    asked = int(sys.argv[1]) if sys.argv[1:] else 10000
+    written_cases()
+    random_questions(asked)
+    print(f'python: passed: {asked} questions')

@@ -1,0 +1,387 @@
+"""Regular expressions by a proved engine, in the words of `re`, over libnfa.so. docs/BINDINGS.md is the manual.
+
+Patterns have the syntax of Rust's `regex`: no look-around and no back-references; `\\z` is the end; `$` does not match
+before a last line feed. An empty match is not one if the last match ends there. A pattern of str matches characters,
+and one of bytes matches bytes. Each thread that uses a pattern compiles it for itself.
+"""
+import ctypes as c
+import os
+import threading
+
+__all__ = ['A', 'ASCII', 'DOTALL', 'I', 'IGNORECASE', 'M', 'MULTILINE', 'Match', 'Pattern', 'S', 'VERBOSE', 'X',
+           'compile', 'error', 'escape', 'findall', 'finditer', 'fullmatch', 'match', 'search', 'split', 'sub', 'subn']
+
+I = IGNORECASE = 1
+M = MULTILINE = 2
+S = DOTALL = 4
+X = VERBOSE = 16
+A = ASCII = 64
+_BYTES, _ANCHORED = 128, 256
+
+_UNSET = c.c_size_t(-1).value
+_FOUND, _MEMORY = 1, -3
+
+
+class _Slot(c.Structure):
+    _fields_ = [('at', c.c_void_p)]
+
+
+class _Handle(c.Structure):
+    _fields_ = [('ready', c.c_bool), ('slot', _Slot)]
+
+
+class _Options(c.Structure):
+    _fields_ = [('flags', c.c_uint32), ('size_limit', c.c_size_t), ('dfa_capacity', c.c_size_t),
+                ('backtrack_capacity', c.c_size_t)]
+
+
+def _library():
+    here = os.path.dirname(os.path.abspath(__file__))
+    library = c.CDLL(os.environ.get('NFA_LIBRARY') or next(
+        (path for path in [os.path.join(here, 'libnfa.so')] if os.path.exists(path)), 'libnfa.so.0'))
+    handle, text, size = c.POINTER(_Handle), c.c_char_p, c.c_size_t
+    for name, result, *arguments in [
+            ('nfa_regex_new_with', c.c_int32, handle, text, size, c.POINTER(_Options)),
+            ('nfa_regex_why', size, text, size, c.POINTER(_Options), text, size),
+            ('nfa_regex_free', None, handle),
+            ('nfa_regex_captures', c.c_int32, handle, text, size, size, size, c.POINTER(size), size),
+            ('nfa_regex_slot_count', size, handle),
+            ('nfa_regex_group_index', c.c_int32, handle, size, text, size, c.POINTER(size))]:
+        function = getattr(library, name)
+        function.restype, function.argtypes = result, arguments
+    return library
+
+
+_lib = _library()
+
+
+class error(Exception):
+    """The text is not a pattern, or the pattern exceeds the size limit."""
+
+    def __init__(self, msg, pattern=None):
+        super().__init__(f'{msg}: {pattern!r}')
+        self.msg, self.pattern, self.pos = msg, pattern, None
+        if msg.startswith('at ') and isinstance(pattern, str):
+            # The message gives the bytes.
+            self.pos = len(pattern.encode()[:int(msg[3:msg.index('..')])].decode(errors='ignore'))
+
+
+def _why(text, flags):
+    room = c.create_string_buffer(1024)
+    size = _lib.nfa_regex_why(text, len(text), c.byref(_Options(flags)), room, len(room))
+    return room.raw[:size].decode(errors='replace')
+
+
+class _Compiled:
+    """A full handle of the library, with room for the slots of its groups."""
+
+    def __init__(self, text, flags):
+        self.handle = _Handle()
+        code = _lib.nfa_regex_new_with(c.byref(self.handle), text, len(text), c.byref(_Options(flags)))
+        if code == _MEMORY:
+            raise MemoryError
+        if code:
+            raise ValueError
+        self.count = _lib.nfa_regex_slot_count(c.byref(self.handle))
+        self.slots = (c.c_size_t * self.count)()
+
+    def __del__(self, free=_lib.nfa_regex_free):
+        free(c.byref(self.handle))
+
+    def search(self, hay, start, end):
+        """The offsets of the groups of the match, or none."""
+        code = _lib.nfa_regex_captures(c.byref(self.handle), hay, end, start, end, self.slots, self.count)
+        return list(self.slots) if code == _FOUND else None
+
+    def group_index(self, name):
+        index, text = c.c_size_t(), name.encode()
+        code = _lib.nfa_regex_group_index(c.byref(self.handle), 0, text, len(text), c.byref(index))
+        return index.value if code == _FOUND else None
+
+
+class _Text:
+    """A haystack as bytes, with positions in it as its user counts them."""
+
+    def __init__(self, string):
+        self.string = string
+        if isinstance(string, str):
+            self.raw = string.encode('utf-8', 'surrogatepass')
+            self.plain = len(self.raw) == len(string)
+        else:
+            self.raw, self.plain = bytes(string), True
+
+    def offset(self, position):
+        """The byte offset of a position."""
+        return position if self.plain else len(self.string[:position].encode('utf-8', 'surrogatepass'))
+
+    def position(self, offset):
+        """The position of a byte offset; -1 for none."""
+        if offset == _UNSET:
+            return -1
+        return offset if self.plain else len(self.raw[:offset].decode('utf-8', 'surrogatepass'))
+
+
+class Match:
+    """A match. Positions count characters of a str, and bytes of bytes."""
+
+    def __init__(self, pattern, text, slots, pos, endpos):
+        self.re, self.string, self.pos, self.endpos = pattern, text.string, pos, endpos
+        self._ends = [text.position(slot) for slot in slots]
+
+    def _number(self, group):
+        number = self.re._index(group) if isinstance(group, str) else group
+        if number is None or not 0 <= number <= self.re.groups:
+            raise IndexError('no such group')
+        return number
+
+    def span(self, group=0):
+        at = 2 * self._number(group)
+        return self._ends[at], self._ends[at + 1]
+
+    def start(self, group=0):
+        return self.span(group)[0]
+
+    def end(self, group=0):
+        return self.span(group)[1]
+
+    def _one(self, group, default=None):
+        start, end = self.span(group)
+        return default if start < 0 else self.string[start:end]
+
+    def group(self, *groups):
+        if len(groups) > 1:
+            return tuple(self._one(group) for group in groups)
+        return self._one(groups[0] if groups else 0)
+
+    __getitem__ = _one
+
+    def groups(self, default=None):
+        return tuple(self._one(group, default) for group in range(1, self.re.groups + 1))
+
+    def groupdict(self, default=None):
+        return {name: self._one(group, default) for name, group in self.re.groupindex.items()}
+
+    @property
+    def lastindex(self):
+        """The group that ends last, and of several the one that begins first."""
+        ends = [(-self.end(group), self.start(group), group) for group in range(1, self.re.groups + 1)
+                if self.start(group) >= 0]
+        return min(ends)[2] if ends else None
+
+    def expand(self, template):
+        """The template, in which \\1, \\g<1> and \\g<name> stand for groups, and \\n, \\t, \\r and \\\\ for a character."""
+        return self.re._template(template)(self)
+
+    def __repr__(self):
+        return f'<nfa.Match object; span={self.span()}, match={self.group()!r}>'
+
+
+def _names(text):
+    """Words of a pattern that may be names of its groups."""
+    for part in text.split('(?')[1:]:
+        name, found, _ = part.removeprefix('P').removeprefix('<').partition('>')
+        if found and name.isidentifier():
+            yield name
+
+
+class Pattern:
+    """A compiled pattern."""
+
+    def __init__(self, pattern, flags=0):
+        self.pattern, self.flags = pattern, flags
+        if isinstance(pattern, str):
+            self._text, self._flags = pattern, flags
+        else:
+            # In such a text a byte above 0x7F is its escape.
+            self._text = ''.join(chr(byte) if byte < 0x80 else f'\\x{byte:02X}' for byte in pattern)
+            self._flags = flags | A | _BYTES
+        self._own = threading.local()
+        try:
+            first = self._compiled('search')
+        except ValueError:
+            raise error(_why(self._text.encode(), self._flags), pattern) from None
+        self.groups = first.count // 2 - 1
+        indices = ((name, first.group_index(name)) for name in _names(self._text))
+        self.groupindex = {name: index for name, index in indices if index is not None}
+
+    def _index(self, name):
+        return self.groupindex.get(name)
+
+    def _compiled(self, how):
+        """This thread's handle for `search`, `match` or `fullmatch`."""
+        kept = self._own.__dict__
+        if how not in kept:
+            kept[how] = self._compile(how)
+        return kept[how]
+
+    def _compile(self, how):
+        if how == 'search':
+            return _Compiled(self._text.encode(), self._flags)
+        if how == 'match':
+            return _Compiled(self._text.encode(), self._flags | _ANCHORED)
+        # The pattern may end in a comment.
+        for end in [r')\z', '\n)\\z'] if '#' in self._text or self._flags & X else [r')\z']:
+            try:
+                made = _Compiled(f'(?:{self._text}{end}'.encode(), self._flags | _ANCHORED)
+            except ValueError:
+                continue
+            if made.count == 2 * self.groups + 2:
+                return made
+        raise error('no pattern for a full match', self.pattern)
+
+    def _checked(self, string):
+        if isinstance(string, str) != isinstance(self.pattern, str):
+            raise TypeError('a pattern of str takes a str, and one of bytes takes bytes')
+        return _Text(string)
+
+    def _one(self, how, string, pos, endpos):
+        text = self._checked(string)
+        endpos = len(string) if endpos is None else max(0, min(endpos, len(string)))
+        pos = max(0, pos)
+        if pos > endpos:
+            return None
+        slots = self._compiled(how).search(text.raw, text.offset(pos), text.offset(endpos))
+        return slots and Match(self, text, slots, pos, endpos)
+
+    def search(self, string, pos=0, endpos=None):
+        return self._one('search', string, pos, endpos)
+
+    def match(self, string, pos=0, endpos=None):
+        return self._one('match', string, pos, endpos)
+
+    def fullmatch(self, string, pos=0, endpos=None):
+        return self._one('fullmatch', string, pos, endpos)
+
+    def finditer(self, string, pos=0, endpos=None):
+        text = self._checked(string)
+        endpos = len(string) if endpos is None else max(0, min(endpos, len(string)))
+        pos = max(0, pos)
+        at, end, last = text.offset(pos), text.offset(endpos), None
+        compiled = self._compiled('search')
+        while at <= end:
+            slots = compiled.search(text.raw, at, end)
+            if slots and slots[0] == slots[1] == last:
+                slots = compiled.search(text.raw, at + 1, end) if at < end else None
+            if not slots:
+                return
+            at = last = slots[1]
+            yield Match(self, text, slots, pos, endpos)
+
+    def findall(self, string, pos=0, endpos=None):
+        empty = string[:0]
+        found = self.finditer(string, pos, endpos)
+        if self.groups == 0:
+            return [each.group() for each in found]
+        return [each.groups(empty)[0] if self.groups == 1 else each.groups(empty) for each in found]
+
+    def split(self, string, maxsplit=0):
+        pieces, at = [], 0
+        for count, found in enumerate(self.finditer(string), 1):
+            pieces += [string[at:found.start()], *found.groups()]
+            at = found.end()
+            if count == maxsplit:
+                break
+        return [*pieces, string[at:]]
+
+    def subn(self, repl, string, count=0):
+        make = repl if callable(repl) else self._template(repl)
+        pieces, at, made = [], 0, 0
+        for found in self.finditer(string):
+            pieces += [string[at:found.start()], make(found)]
+            at, made = found.end(), made + 1
+            if made == count:
+                break
+        return string[:0].join([*pieces, string[at:]]), made
+
+    def sub(self, repl, string, count=0):
+        return self.subn(repl, string, count)[0]
+
+    def _template(self, template):
+        """A function from a match to the template with its groups."""
+        is_text = isinstance(template, str)
+        text, parts, at = template if is_text else template.decode('latin-1'), [], 0
+        while (next_at := text.find('\\', at)) >= 0:
+            part, size = self._escape(text[next_at + 1:], template)
+            parts += [text[at:next_at], part]
+            at = next_at + 1 + size
+        parts.append(text[at:])
+
+        def fill(found):
+            empty = found.string[:0]
+            shown = [part if is_text else part.encode('latin-1') if isinstance(part, str) else part for part in parts]
+            return empty.join(found[part] or empty if isinstance(part, int) else part for part in shown)
+        return fill
+
+    def _escape(self, rest, template):
+        """What stands for this text after a backslash, a text or the number of a group, and how much of it."""
+        if rest[:1] and rest[0] in '\\ntr':
+            return {'\\': '\\', 'n': '\n', 't': '\t', 'r': '\r'}[rest[0]], 1
+        name, size = None, 0
+        if rest.startswith('g<') and '>' in rest:
+            size = rest.index('>') + 1
+            name = rest[2:size - 1]
+        elif rest[:1].isdigit():
+            size = 2 if rest[1:2].isdigit() else 1
+            name = rest[:size]
+        number = int(name) if name and name.isdigit() else self._index(name)
+        if number is None or number > self.groups:
+            raise error('a template names no group', template)
+        return number, size
+
+    def __repr__(self):
+        return f'nfa.compile({self.pattern!r})'
+
+
+def compile(pattern, flags=0):
+    return pattern if isinstance(pattern, Pattern) else _kept(pattern, flags)
+
+
+_patterns = {}
+
+
+def _kept(pattern, flags):
+    key = type(pattern), pattern, flags
+    if key not in _patterns:
+        if len(_patterns) >= 256:
+            _patterns.clear()
+        _patterns[key] = Pattern(pattern, flags)
+    return _patterns[key]
+
+
+def search(pattern, string, flags=0):
+    return compile(pattern, flags).search(string)
+
+
+def match(pattern, string, flags=0):
+    return compile(pattern, flags).match(string)
+
+
+def fullmatch(pattern, string, flags=0):
+    return compile(pattern, flags).fullmatch(string)
+
+
+def findall(pattern, string, flags=0):
+    return compile(pattern, flags).findall(string)
+
+
+def finditer(pattern, string, flags=0):
+    return compile(pattern, flags).finditer(string)
+
+
+def split(pattern, string, maxsplit=0, flags=0):
+    return compile(pattern, flags).split(string, maxsplit)
+
+
+def sub(pattern, repl, string, count=0, flags=0):
+    return compile(pattern, flags).sub(repl, string, count)
+
+
+def subn(pattern, repl, string, count=0, flags=0):
+    return compile(pattern, flags).subn(repl, string, count)
+
+
+def escape(pattern):
+    """A pattern that matches this text."""
+    if isinstance(pattern, str):
+        return ''.join('\\' + letter if letter in r'\.+*?()|[]{}^$#&-~' else letter for letter in pattern)
+    return escape(pattern.decode('latin-1')).encode('latin-1')
