@@ -1,5 +1,5 @@
 -- The builder that the options of a C program ask for.
-use Rattle.std.specs.Prelude.{Bool, None, Option, Some, bit_and, if◌then◌else◌, not, ℕ, ◌==◌}
+use Rattle.std.specs.Prelude.{Bool, None, Some, bit_and, if◌then◌else◌, not, ℕ, ◌==◌}
 use Rattle.regex_syntax.specs.Verdict.{default_config}
 use Rattle.nfa_meta.specs.Built.{default_settings}
 use Rattle.nfa_meta.specs.declared.builder.Builder.{Builder}

@@ -162,8 +162,9 @@ pub extern "C" fn nfa_regex_captures(
     ensures answer { IfSome regex.old.slot.value (λ own. InRange haystack.now start end →
         IsCaptured own.regex.choice (search_in haystack.now start end) (length own.row.items) result slots.new) }
     ensures keeps { Keeps regex.old.slot.value regex.new.slot.value }
-    ensures empty { InRange haystack.now start end → regex.old.slot.value ≡ None → result ≡ empty_code }
-    ensures range { (InRange haystack.now start end → ⊥) → result ≡ range_code }
+    ensures empty { InRange haystack.now start end → regex.old.slot.value ≡ None →
+        (result ≡ empty_code) × (slots.new ≡ slots.old) }
+    ensures range { (InRange haystack.now start end → ⊥) → (result ≡ range_code) × (slots.new ≡ slots.old) }
 {
     let Some(input) = input_of(haystack, start, end) else {
         return RANGE;
