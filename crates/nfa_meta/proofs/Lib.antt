@@ -11,5 +11,6 @@ pub mod PrefixLemmas
 pub mod RegexLemmas
 pub mod RewriteLemmas
 pub mod Rewriting
+pub mod RunLemmas
 pub mod WindowLemmas
 pub mod WorkLemmas

@@ -2,6 +2,7 @@
 use Rattle.nfa_paths.proofs.Common.{rules, Some, arith, common_steps, found_of, search_of, IsFindAnswer}
 use Rattle.nfa_search_base.proofs.AskingLemmas.{inside-of}
 use Rattle.nfa_choice.specs.ChoiceState.{kind_in}
+use Rattle.nfa_meta.proofs.RunLemmas.{runs-later}
 use Rattle.nfa_meta.proofs.regex.Regex.find_by_ref.Goals as goal
 
 pub returns-in-Some-clause-pattern : goal.returns-in-Some-clause-pattern
@@ -14,3 +15,8 @@ returns-in-Some-clause-inside c =
     let answer : IsFindAnswer r.nfa (kind_in r) x.earliest x (Some (found_of c.in-Some.found)) =
     first_of (search rules, grind (arith, common_steps)) in
     inside-of r.nfa (kind_in r) x.earliest x (Some c.in-Some.found) answer
+
+pub returns-clause-runs : goal.returns-clause-runs
+returns-clause-runs c =
+    runs-later c.args.self.now c.find_at_first.new.self c.find_past_first.new.self c.find_at_first.ensures.same
+    (search_of c.args.input.now) c.find_at_first.ensures.keeps c.find_past_first.ensures.runs
