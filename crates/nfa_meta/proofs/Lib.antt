@@ -12,5 +12,6 @@ pub mod QuickLemmas
 pub mod RegexLemmas
 pub mod RewriteLemmas
 pub mod Rewriting
+pub mod RunLemmas
 pub mod WindowLemmas
 pub mod WorkLemmas

@@ -1,5 +1,5 @@
 -- The path that answers a search answers the search of a window.
-use Rattle.nfa_paths.proofs.Common.{Err, Ok, Result, ◌≡◌, ◌⊎◌, inl, inr, ℕ, ◌≤◌, Bool, true, false, List, refl, ap, sym, ◌∙◌, subst, arith, IfNone, IfOk, IfSome, Option, None, Some, is_some, replicate, option_and_then, option_map, option_map_or, length-replicate, Found, HalfFound, Search, search_of, MatchKind, Automaton, Pair, PathTo, IsFirstPath, IsFirstTo, IsAnswer, IsFindAnswer, IsHalfAnswer, IsMatch, IsScanAnswer, IsSearchAnswer, edges, node_at, path_half, pattern_of, raised, slot_row, starts, Yes, Input, LeftmostFirst}
+use Rattle.nfa_paths.proofs.Common.{Err, Ok, Result, ◌≡◌, ◌⊎◌, inl, inr, ℕ, ◌<◌, ◌≤◌, Bool, true, false, List, refl, ap, sym, ◌∙◌, subst, arith, IfErr, IfNone, IfOk, IfSome, Option, None, Some, is_some, replicate, option_and_then, option_map, option_map_or, length-replicate, Found, HalfFound, Search, search_of, MatchKind, Automaton, Pair, PathTo, IsFirstPath, IsFirstTo, IsAnswer, IsFindAnswer, IsHalfAnswer, IsMatch, IsScanAnswer, IsSearchAnswer, edges, node_at, path_half, pattern_of, raised, slot_row, starts, Yes, Input, LeftmostFirst}
 use Rattle.nfa_paths.proofs.AnswerLemmas.{scan_answer-leads, scan_answer-unique}
 use Rattle.nfa_paths.proofs.OneScanLemmas.{last-scan, scan-of, search-of}
 use Rattle.nfa_paths.proofs.PathToLemmas.{EndsWith-last}
@@ -12,7 +12,7 @@ use Rattle.nfa_lazy_dfa.specs.declared.window.Window.{Window}
 use Rattle.nfa_choice.specs.ChoiceState.{kind_in}
 use Rattle.nfa_meta.specs.RegexState.{KeepsRegex, RegexState}
 use Rattle.nfa_meta.specs.WindowLaws.{WindowHasTheAnswer, WindowHasTheMatch, within}
-use Rattle.nfa_meta.specs.WindowRuns.{AnswersAs, HasNoMatch, IsWindowOf}
+use Rattle.nfa_meta.specs.WindowRuns.{AnswersAs, EndsAtMatch, HalvesAs, HasNoMatch, IsWindowOf, NeedsWhole}
 use Rattle.nfa_meta.specs.Windowed.{IsWindowed}
 
 -- an unanchored search, and a position before which no accepting path starts
@@ -269,14 +269,28 @@ nothing-then nfa kind x y same one none = record {
   matches = one.matches None (subst (λ (b : Bool). IsFindAnswer nfa kind b y None) same none.matches);
 }
 
+-- the end of the match of what is left of a search is that of its match
+pub ends-then : (nfa : Automaton) (kind : MatchKind) (x y z : Search) → HalvesAs nfa kind x y
+    → EndsAtMatch nfa kind y z → EndsAtMatch nfa kind x z
+ends-then nfa kind x y z halves at = record {
+  half = at.half;
+  found = halves.halves (Some at.half)
+      (subst (λ (e : Bool). IsHalfAnswer nfa kind e y (Some at.half)) halves.earliest at.found);
+  ends = at.ends;
+}
+
 -- so the window of what is left of a search is that of the search
 pub window-on : (r : RegexState) {new : RegexState} {x y : Search} {E : Type 0} (result : Result (Option Input) E)
     → IsWindowOf r.choice.nfa x y → AnswersAs r.choice.nfa (kind_in r.choice) x y
+    → HalvesAs r.choice.nfa (kind_in r.choice) x y
     → record {
       nothing : IfOk result (λ window. IfNone window (HasNoMatch r.choice.nfa (kind_in r.choice) y));
       part : IfOk result (λ window. IfSome window (λ part. IsWindowOf r.choice.nfa y (search_of part)));
       answers : IfOk result (λ window.
           IfSome window (λ part. AnswersAs r.choice.nfa (kind_in r.choice) y (search_of part)));
+      ends : IfOk result (λ window.
+          IfSome window (λ part. EndsAtMatch r.choice.nfa (kind_in r.choice) y (search_of part)));
+      stopped : IfErr result (λ _. r.stops < new.stops);
       same : new.choice ≡ r.choice;
       keeps : KeepsRegex r new;
     } → record {
@@ -284,22 +298,36 @@ pub window-on : (r : RegexState) {new : RegexState} {x y : Search} {E : Type 0} 
       part : IfOk result (λ window. IfSome window (λ part. IsWindowOf r.choice.nfa x (search_of part)));
       answers : IfOk result (λ window.
           IfSome window (λ part. AnswersAs r.choice.nfa (kind_in r.choice) x (search_of part)));
+      ends : IfOk result (λ window.
+          IfSome window (λ part. EndsAtMatch r.choice.nfa (kind_in r.choice) x (search_of part)));
+      why : IfErr result (λ _. NeedsWhole x r new);
       same : new.choice ≡ r.choice;
       keeps : KeepsRegex r new;
     }
-window-on r {x = x} {y = y} (Ok None) of same h = record {
+window-on r {x = x} {y = y} (Ok None) of same halves h = record {
   nothing = nothing-then r.choice.nfa (kind_in r.choice) x y of.earliest same h.nothing;
   part = tt;
   answers = tt;
+  ends = tt;
+  why = tt;
   same = h.same;
   keeps = h.keeps;
 }
-window-on r {x = x} {y = y} (Ok (Some w)) of same h = record {
+window-on r {x = x} {y = y} (Ok (Some w)) of same halves h = record {
   nothing = tt;
   part = window-then r.choice.nfa x y (search_of w) of h.part;
   answers = answers-then r.choice.nfa (kind_in r.choice) x y (search_of w) of.earliest same h.answers;
+  ends = ends-then r.choice.nfa (kind_in r.choice) x y (search_of w) halves h.ends;
+  why = tt;
   same = h.same;
   keeps = h.keeps;
 }
-window-on r (Err e) of same h =
-    record { nothing = tt; part = tt; answers = tt; same = h.same; keeps = h.keeps }
+window-on r (Err e) of same halves h = record {
+  nothing = tt;
+  part = tt;
+  answers = tt;
+  ends = tt;
+  why = inr h.stopped;
+  same = h.same;
+  keeps = h.keeps;
+}

@@ -41,8 +41,9 @@ module _ (nfa : Automaton) (kind : MatchKind) (y v : Search) (is : IsWindowOf nf
 -- so is what a search by windows does
 by-windows : (totals : ChoiceState → Totals) → DoesBy totals by_rule → DoesBy totals by_window
 by-windows totals runs y s t (inl (inl same)) = inr (ap totals same)
-by-windows totals runs y s t (inl (inr rule)) = runs y s.choice t.choice rule
-by-windows totals runs y s t (inr w) =
+by-windows totals runs y s t (inl (inr ran)) = runs y s.choice t.choice ran.runs
+by-windows totals runs y s t (inr (inr ran)) = runs y s.choice t.choice ran.runs
+by-windows totals runs y s t (inr (inl w)) =
     window-does s.choice.nfa (kind_in s.choice) y w.window w.is (totals s.choice) (totals t.choice)
     (runs w.window s.choice t.choice w.runs)
 

@@ -56,6 +56,7 @@ regex_of nfa config = record {
   choice = engines_of nfa config.backtrack_visited_capacity;
   config = config;
   rows = 0;
+  stops = 0;
 }
 
 -- the regex has these settings, and has not searched yet: both caches are as they were made, and the lazy DFA has no

@@ -9,11 +9,13 @@ use Rattle.nfa_meta.specs.declared.builder.Config.{Config}
 abbrev pub row_capacity : Config → ℕ
 row_capacity c = if c.hybrid then c.hybrid_cache_capacity else 0
 
--- what its choice shows, the settings, and the bytes that the rows of the lazy DFA take
+-- what its choice shows, the settings, the bytes that the rows of the lazy DFA take, and how many of the DFA's searches
+-- stopped without an answer
 pub record RegexState : Type 0 where
   pub choice : ChoiceState
   pub config : Config
   pub rows : ℕ
+  pub stops : ℕ
 
 -- the PikeVM of its choice, which defines its answers
 abbrev pub pike_of : RegexState → Pike
@@ -27,8 +29,10 @@ bytes_of r = min (memory_of r.choice.back + pike_memory_of r.choice.pike + r.row
 abbrev pub HasRoom : RegexState → Type 0
 HasRoom r = r.rows ≤ row_capacity r.config
 
--- what a search keeps: the engines of the choice, and the settings; and the rows have room, if they had before
+-- What a search keeps: the engines of the choice, and the settings. The rows have room, if they had before, and no stop
+-- is forgotten.
 pub record KeepsRegex (old new : RegexState) : Type 0 where
   pub engines : KeepsEngines old.choice new.choice
   pub config : new.config ≡ old.config
   pub rows : HasRoom old → HasRoom new
+  pub stops : old.stops ≤ new.stops

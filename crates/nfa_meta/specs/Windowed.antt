@@ -8,6 +8,10 @@ pub record IsWindowed (nfa : Automaton) (x : Search) : Type 0 where
   pub unbound : IsUnbound nfa x
   pub last : x.earliest ≡ false
 
+-- the search has no windows, so the choice may search its whole span without a stop of the lazy DFA
+abbrev pub HasNoWindows : Automaton → Search → Type 0
+HasNoWindows nfa x = IsWindowed nfa x → ⊥
+
 -- the search of what is left from a start on before which nothing matches
 pub record IsRestOf (nfa : Automaton) (x y : Search) : Type 0 where
   pub first : IsFirstStart nfa x y.start

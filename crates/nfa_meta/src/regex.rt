@@ -95,7 +95,7 @@ impl Model for Regex {
     ghost use Rattle.std.specs.Prelude.{◌≡◌, ◌≤◌, true};
     ghost use Rattle.regex_search_core.specs.declared.search.MatchKind.TheVariants.{LeftmostFirst};
     ghost use Rattle.nfa_lazy_dfa.specs.Configs.{default_clears, kind_of, nfa_of};
-    ghost use Rattle.nfa_lazy_dfa.specs.Rows.{IsFor, capacity_of, max_clears_of, memory_of};
+    ghost use Rattle.nfa_lazy_dfa.specs.Rows.{IsFor, capacity_of, max_clears_of, memory_of, stops_of};
     ghost use Rattle.nfa_choice.specs.ChoiceState.{kind_in};
     ghost use Rattle.nfa_match_spans.specs.StatePaths.{RecordsMatchSpans};
     ghost use Rattle.thompson_nfa.specs.Automaton.{IsAutomaton};
@@ -105,7 +105,12 @@ impl Model for Regex {
 
     ghost Value = { RegexState };
 
-    ghost view = { λ r. record { choice = r.choice; config = r.config; rows = memory_of r.cache } };
+    ghost view = { λ r. record {
+      choice = r.choice;
+      config = r.config;
+      rows = memory_of r.cache;
+      stops = stops_of r.cache;
+    } };
 
     ghost invariant = { λ r. (nfa_of r.dfa ≡ r.choice.nfa) × (kind_of r.dfa ≡ LeftmostFirst)
         × (capacity_of r.dfa ≡ row_capacity r.config) × (max_clears_of r.dfa ≡ default_clears)

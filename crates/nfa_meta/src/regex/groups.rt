@@ -7,9 +7,9 @@ ghost use Rattle.regex_search_core.specs.Search.{search_of};
 ghost use Rattle.nfa_paths.specs.Paths.{IsAnswer, IsFindAnswer};
 ghost use Rattle.nfa_backtrack.specs.Backtrack.{HoldsNoMore};
 ghost use Rattle.nfa_choice.specs.Answered.{WritesSlots};
-ghost use Rattle.nfa_choice.specs.ChoiceState.{kind_in};
+ghost use Rattle.nfa_choice.specs.ChoiceState.{SearchedByRule, kind_in};
 ghost use Rattle.nfa_meta.specs.RegexState.{KeepsRegex};
-ghost use Rattle.nfa_meta.specs.WindowRuns.{AnswersAs, HasNoMatch, IsWindowOf, RunsByWindow};
+ghost use Rattle.nfa_meta.specs.WindowRuns.{AnswersAs, HasNoMatch, IsWindowOf, NeedsPart, RunsByWindow};
 
 use crate::regex::Regex;
 use nfa_onepass::laws::only_slots_answer;
@@ -75,7 +75,8 @@ impl Regex {
             AnswersAs self.old.choice.nfa (kind_in self.old.choice) (search_of input.now) (search_of y)) }
         ensures answer { IsAnswer self.old.choice.nfa (kind_in self.old.choice) (search_of input.now).earliest
             (search_of input.now) (option_map number_of result) slots.new }
-        ensures runs { RunsByWindow (search_of input.now) self.old self.new }
+        ensures none { IfNone part.entry (self.new.choice ≡ self.old.choice) }
+        ensures runs { IfSome part.entry (λ y. SearchedByRule (search_of y) self.old.choice self.new.choice) }
         ensures writes { WritesSlots self.old.choice.nfa (search_of input.now) result slots.old slots.new }
         ensures holds { HoldsNoMore 0 self.old.choice.back self.new.choice.back }
         ensures keeps { KeepsRegex self.old self.new }
@@ -127,6 +128,8 @@ impl Regex {
             (search_of part ≡ x) ⊎ IsWindowOf self.old.choice.nfa x (search_of part))) }
         ensures answers { IfErr result (λ rest. IfSome rest (λ part.
             AnswersAs self.old.choice.nfa (kind_in self.old.choice) (search_of input.entry) (search_of part))) }
+        ensures why { let x = search_of input.entry in IfErr result (λ rest. IfSome rest (λ part.
+            NeedsPart x (search_of part) self.old self.new)) }
         ensures same { self.new.choice ≡ self.old.choice }
         ensures keeps { KeepsRegex self.old self.new }
     {

@@ -7,7 +7,7 @@ ghost use Rattle.nfa_search_base.specs.Lists.{IsInside};
 ghost use Rattle.nfa_choice.specs.ChoiceState.{kind_in};
 ghost use Rattle.nfa_meta.specs.RegexState.{KeepsRegex};
 ghost use Rattle.nfa_meta.specs.MatchSlots.{match_slots};
-ghost use Rattle.nfa_meta.specs.WindowRuns.{AnswersAs, HasNoMatch, IsWindowOf};
+ghost use Rattle.nfa_meta.specs.WindowRuns.{AnswersAs, HasNoMatch, IsWindowOf, NeedsPart};
 
 use crate::regex::Regex;
 use regex_search_core::{Captures, Input, Match, NonMaxUsize};
@@ -32,6 +32,8 @@ impl Regex {
             (search_of part ≡ x) ⊎ IsWindowOf self.old.choice.nfa x (search_of part))) }
         ensures answers { IfErr result (λ rest. IfSome rest (λ part.
             AnswersAs self.old.choice.nfa (kind_in self.old.choice) (search_of input.entry) (search_of part))) }
+        ensures why { let x = search_of input.entry in IfErr result (λ rest. IfSome rest (λ part.
+            NeedsPart x (search_of part) self.old self.new)) }
         ensures same { self.new.choice ≡ self.old.choice }
         ensures keeps { KeepsRegex self.old self.new }
     {
@@ -59,6 +61,8 @@ impl Regex {
             (search_of part ≡ x) ⊎ IsWindowOf self.old.choice.nfa x (search_of part))) }
         ensures answers { IfErr result (λ rest. IfSome rest (λ part.
             AnswersAs self.old.choice.nfa (kind_in self.old.choice) (search_of input.entry) (search_of part))) }
+        ensures why { let x = search_of input.entry in IfErr result (λ rest. IfSome rest (λ part.
+            NeedsPart x (search_of part) self.old self.new)) }
         ensures same { self.new.choice ≡ self.old.choice }
         ensures keeps { KeepsRegex self.old self.new }
     {

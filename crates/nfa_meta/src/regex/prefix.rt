@@ -25,6 +25,8 @@ impl Regex {
         ensures part { IfSome result (λ part. IsWindowOf self.now.choice.nfa (search_of input.entry) (search_of part)) }
         ensures answers { IfSome result (λ part.
             AnswersAs self.now.choice.nfa (kind_in self.now.choice) (search_of input.entry) (search_of part)) }
+        ensures halves { IfSome result (λ part.
+            HalvesAs self.now.choice.nfa (kind_in self.now.choice) (search_of input.entry) (search_of part)) }
     {
         starts_may_be_passed();
         nothing_has_no_answer();

@@ -1,6 +1,6 @@
 //! The part of an input that holds the answer of its search.
-ghost use Rattle.std.specs.Prelude.{◌≡◌, ◌*◌, ◌+◌, ◌≤◌, ◌⊎◌, ◌<◌, IfNone, IfOk, IfSome, None, Some, false, length};
-ghost use Rattle.std.specs.Prelude.{option_map, true};
+ghost use Rattle.std.specs.Prelude.{◌≡◌, ◌*◌, ◌+◌, ◌≤◌, ◌⊎◌, ◌<◌, IfErr, IfNone, IfOk, IfSome, None, Some, false};
+ghost use Rattle.std.specs.Prelude.{length, option_map, true};
 ghost use Rattle.regex_search_core.specs.Found.{found_of};
 ghost use Rattle.regex_search_core.specs.Search.{search_of};
 ghost use Rattle.nfa_paths.specs.Paths.{IsFindAnswer, IsHalfAnswer, is_utf8_empty};
@@ -10,8 +10,9 @@ ghost use Rattle.nfa_engines.specs.Laws.{MatchesNothing};
 ghost use Rattle.nfa_engines.specs.StartLaws.{IsFirstStart, IsUnbound, StartsAnywhere};
 ghost use Rattle.nfa_choice.specs.ChoiceState.{kind_in};
 ghost use Rattle.nfa_meta.specs.RegexState.{KeepsRegex};
-ghost use Rattle.nfa_meta.specs.Windowed.{IsWindowed};
-ghost use Rattle.nfa_meta.specs.WindowRuns.{AnswersAs, HasNoMatch, IsWindowOf, RunsByWindow};
+ghost use Rattle.nfa_meta.specs.Windowed.{HasNoWindows, IsWindowed};
+ghost use Rattle.nfa_meta.specs.WindowRuns.{AnswersAs, EndsAtMatch, HasNoMatch, IsWindowOf, NeedsPart, NeedsWhole};
+ghost use Rattle.nfa_meta.specs.WindowRuns.{RunsByWindow};
 
 use crate::laws;
 use crate::regex::Regex;
@@ -33,14 +34,16 @@ pub(super) struct NoWindow;
 impl Regex {
     /// Whether a window of the lazy DFA has the match of the search.
     pub(super) fn is_windowed(&self, input: &Input<'_>) -> bool
-        ensures { result ≡ true → IsWindowed self.now.choice.nfa (search_of input.now) }
+        ensures some { result ≡ true → IsWindowed self.now.choice.nfa (search_of input.now) }
+        ensures none { result ≡ false → HasNoWindows self.now.choice.nfa (search_of input.now) }
     {
         !input.get_earliest() && self.is_unbound(input)
     }
 
     /// Whether a match of the search may start and end anywhere in its span.
     pub(super) fn is_unbound(&self, input: &Input<'_>) -> bool
-        ensures { result ≡ true → IsUnbound self.now.choice.nfa (search_of input.now) }
+        ensures unbound { result ≡ true → IsUnbound self.now.choice.nfa (search_of input.now) }
+        ensures bound { result ≡ false → IsUnbound self.now.choice.nfa (search_of input.now) → ⊥ }
     {
         let nfa = self.choice.get_nfa();
         !input.get_anchored().is_anchored()
@@ -56,6 +59,9 @@ impl Regex {
             IfSome window (λ part. IsWindowOf self.old.choice.nfa (search_of input.entry) (search_of part))) }
         ensures answers { IfOk result (λ window. IfSome window (λ part.
             AnswersAs self.old.choice.nfa (kind_in self.old.choice) (search_of input.entry) (search_of part))) }
+        ensures ends { IfOk result (λ window. IfSome window (λ part.
+            EndsAtMatch self.old.choice.nfa (kind_in self.old.choice) (search_of input.entry) (search_of part))) }
+        ensures why { IfErr result (λ _. NeedsWhole (search_of input.entry) self.old self.new) }
         ensures same { self.new.choice ≡ self.old.choice }
         ensures keeps { KeepsRegex self.old self.new }
     {
@@ -78,6 +84,9 @@ impl Regex {
             IfSome window (λ part. IsWindowOf self.old.choice.nfa (search_of input.entry) (search_of part))) }
         ensures answers { IfOk result (λ window. IfSome window (λ part.
             AnswersAs self.old.choice.nfa (kind_in self.old.choice) (search_of input.entry) (search_of part))) }
+        ensures ends { IfOk result (λ window. IfSome window (λ part.
+            EndsAtMatch self.old.choice.nfa (kind_in self.old.choice) (search_of input.entry) (search_of part))) }
+        ensures stopped { IfErr result (λ _. self.old.stops < self.new.stops) }
         ensures same { self.new.choice ≡ self.old.choice }
         ensures keeps { KeepsRegex self.old self.new }
     {
@@ -98,6 +107,8 @@ impl Regex {
             (search_of part ≡ x) ⊎ IsWindowOf self.old.choice.nfa x (search_of part)) }
         ensures answers { IfSome result (λ part.
             AnswersAs self.old.choice.nfa (kind_in self.old.choice) (search_of input.entry) (search_of part)) }
+        ensures why { IfSome result (λ part.
+            NeedsPart (search_of input.entry) (search_of part) self.old self.new) }
         ensures same { self.new.choice ≡ self.old.choice }
         ensures keeps { KeepsRegex self.old self.new }
     {

@@ -1,5 +1,5 @@
 -- It allocates only if there was a match.
-use Rattle.nfa_paths.proofs.Common.{rules, ◌≡◌, ◌∙◌, List, ap, arith, common_steps, map, subst, sym, found_of, search_of, Match}
+use Rattle.nfa_paths.proofs.Common.{rules, ◌∙◌, List, ap, arith, common_steps, map, subst, sym, found_of, search_of, Match}
 use Rattle.nfa_search_base.specs.Common.{MatchesNext}
 use Rattle.nfa_search_base.proofs.ListLemmas.{none-before}
 use Rattle.nfa_choice.specs.ChoiceState.{kind_in}

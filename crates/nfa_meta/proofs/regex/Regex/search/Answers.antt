@@ -6,6 +6,9 @@ use Rattle.nfa_meta.proofs.GroupLemmas.{captures-fill}
 use Rattle.nfa_meta.proofs.MatchSlotLemmas.{match_slots-inside}
 use Rattle.nfa_meta.proofs.WindowLemmas.{part-earliest}
 use Rattle.nfa_meta.specs.RegexState.{RegexState}
+use Rattle.nfa_choice.specs.ChoiceState.{SearchedByRule}
+use Rattle.nfa_meta.specs.WindowRuns.{NeedsPart}
+use Rattle.nfa_meta.proofs.RunLemmas.{part-ran}
 use Rattle.nfa_meta.proofs.regex.Regex.search.Goals as goal
 
 pub returns-in-Err-Some-clause-answer : goal.returns-in-Err-Some-clause-answer
@@ -45,3 +48,14 @@ returns-then-slots-ne2-clause-fills c =
     first_of (search rules, grind (arith, common_steps)) in
     captures-fill r.nfa x c.search_groups-pattern.result old new groups count pattern
     (rw is (rw c.slots_mut.ensures.value at c.search_groups-pattern.ensures.writes))
+
+pub returns-in-Err-Some-clause-runs : goal.returns-in-Err-Some-clause-runs
+returns-in-Err-Some-clause-runs c =
+    let a = c.args.self.now in
+    let b = c.match_or_part.new.self in
+    let x = search_of c.args.input.now in
+    let y = search_of c.in-Err-Some.part in
+    let why : NeedsPart x y a b = rw c.in-Err-Some.field-0-is at c.in-Err-Some.ensures.why in
+    let ran : SearchedByRule y b.choice c.search.new.self =
+    rw (ap (λ (s : RegexState). s.choice) c.self.view_is) at c.search.ensures.runs in
+    part-ran a b _ c.match_or_part.ensures.same x y why (first_of (search rules, grind (arith, common_steps))) ran

@@ -3,6 +3,7 @@ use Rattle.nfa_paths.proofs.Common.{rules, ◌≡◌, arith, None, Some, common_
 use Rattle.nfa_choice.specs.ChoiceState.{kind_in}
 use Rattle.nfa_lazy_dfa.specs.Windows.{half_in}
 use Rattle.nfa_meta.specs.Windowed.{IsWindowed}
+use Rattle.nfa_meta.specs.WindowRuns.{EndsAtMatch}
 use Rattle.nfa_meta.proofs.WindowLemmas.{HasWindow, none-match, window-answers}
 use Rattle.nfa_meta.proofs.regex.Regex.window_in.Goals as goal
 use Rattle.nfa_meta.proofs.regex.Regex.window_in.Goals.{in-Ok-None, in-Ok-Some, in-Err}
@@ -40,5 +41,24 @@ returns-clause-answers c =
           let half : IsHalfAnswer r.nfa (kind_in r) x.earliest x (Some (half_in v)) =
           first_of (search rules, grind (arith, common_steps)) in
           rw w.result-is (window-answers has c.windows_answer.ensures (kind_in r) first half)
+      | in-Err w ↦ rw w.result-is tt
+    ]
+
+pub returns-clause-ends : goal.returns-clause-ends
+returns-clause-ends c =
+    let x = search_of c.args.input in
+    let r = c.args.self.now.choice in
+    elim c.match-try_find_window.branch [
+      | in-Ok-None w ↦ rw w.result-is tt
+      | in-Ok-Some w ↦
+          let v = w.in-Ok-Some.window in
+          let half : IsHalfAnswer r.nfa (kind_in r) x.earliest x (Some (half_in v)) =
+          first_of (search rules, grind (arith, common_steps)) in
+          let ends : EndsAtMatch r.nfa (kind_in r) x (search_of w.range.result) = record {
+            half = half_in v;
+            found = half;
+            ends = first_of (search rules, grind (arith, common_steps));
+          } in
+          rw w.result-is ends
       | in-Err w ↦ rw w.result-is tt
     ]
