@@ -7,7 +7,7 @@ use Rattle.nfa_prefix.specs.RequiredBytes.{IsRequired}
 use Rattle.nfa_prefix.specs.declared.literals.Literals.{Literals}
 
 -- the literals are those of the NFA: each of its matches begins with the prefix, and with one of the first bytes, and
--- has the required byte if there is one
+-- has the required bytes if there are any
 pub record AreLiteralsOf (nfa : Automaton) (literals : Literals) : Type 0 where
   pub begins : BeginsWith nfa literals.prefix.items
   pub among : BeginsAmong nfa literals.first
