@@ -64,7 +64,7 @@ failure_text (failure.Pattern error) = only_pattern_text error
 abbrev pub over : List ℕ → List ℕ → List ℕ
 over bytes old = take (length old) bytes ++ drop (length bytes) old
 
--- the message says why no regex is made of the text; so many bytes it has
+-- the message says why no regex is made of the text, and has `count` bytes
 pub record TellsWhy (b : Builder) (text : List ℕ) (count : ℕ) (old new : List ℕ) : Type 0 where
   pub cause : Failure
   pub why : IsWhy b text cause

@@ -1,5 +1,5 @@
 //! The engine of `nfa_meta` for programs in C, and in all languages that call C. `bindings/c/nfa.h` declares what this
-//! exports, and says what a caller owes.
+//! exports, and says what a caller must ensure.
 #![tactic(auto)]
 
 pub mod codes;

@@ -1,4 +1,4 @@
--- `of` takes a box apart: the pair that comes of it owns, with its block, what the box did.
+-- `of` takes a box apart: the resulting pair owns the box's block, and what the box owned.
 use Rattle.std.proofs.Common.{◌≡◌, List, [], ◌∷◌, ◌++◌, refl, sym, subst, ap}
 use seplogic.Ra.Ura.{Ura}
 use mir.Syntax.{Args, Dict, Fn, a_type, dcons, dnil}
