@@ -1,6 +1,7 @@
 //! A regex compared with a choice over the samples; windows of the lazy DFA; captures and half matches; texts that are
 //! split or replaced, also by templates and functions; settings of a regex; and sets of patterns.
 
+mod alike;
 mod built;
 mod captures;
 mod ends;
@@ -12,3 +13,4 @@ mod sets;
 mod templates;
 mod texts;
 mod windows;
+mod written;
