@@ -177,3 +177,32 @@ fn more_states_than_rows_have_room(rt: HostRuntime) -> Result<(), Fail> {
     assert!(rt; regex.ran().is_some());
     Ok(())
 }
+
+// Steps take no more memory than they may. Where there is no room for one, the choice searches.
+#[test]
+fn steps_stay_within_their_limit(rt: HostRuntime) -> Result<(), Fail> {
+    for (limit, walks) in [(0, false), (2_000, false), (6_000, false), (100_000, true)] {
+        let config = Regex::config().onepass_size_limit(limit).hybrid_cache_capacity(1 << 20);
+        let mut regex = Regex::builder().configure(config).build(rt.alloc(), "(a+)(b+)(c+)")?;
+        let input = Input::new(b"abc");
+        assert!(rt; regex.find(input).is_some());
+        let before = regex.memory_usage();
+        regex.search_slots(&input, &mut [None; 8]);
+        assert_eq!(rt; regex.ran().is_none(), walks, "{limit}");
+        assert!(rt; !walks || regex.memory_usage() > before);
+        assert!(rt; !walks || regex.memory_usage() <= before + limit);
+    }
+    Ok(())
+}
+
+// Without sure steps the choice searches for groups, and the answers stay the same.
+#[test]
+fn steps_can_be_left_out(rt: HostRuntime) -> Result<(), Fail> {
+    let config = Regex::config().onepass(false);
+    let mut regex = Regex::builder().configure(config).build(rt.alloc(), "([a-z]+)=([0-9]+)")?;
+    let mut slots = [None; 6];
+    regex.search_slots(&Input::new(b"ab=12"), &mut slots);
+    assert_eq!(rt; slots, [0, 5, 0, 2, 3, 5].map(NonMaxUsize::new));
+    assert!(rt; regex.ran().is_some());
+    Ok(())
+}

@@ -26,6 +26,8 @@ default_settings = record {
   hybrid = true;
   hybrid_cache_capacity = 16_777_216;
   backtrack_visited_capacity = None;
+  onepass = true;
+  onepass_size_limit = 1_048_576;
 }
 
 -- the builder of these settings, and of the default syntax
@@ -57,10 +59,11 @@ regex_of nfa config = record {
   config = config;
   rows = 0;
   stops = 0;
+  steps = 0;
 }
 
--- the regex has these settings, and has not searched yet: both caches are as they were made, and the lazy DFA has no
--- rows
+-- the regex has these settings, and has not searched yet: both caches are as they were made, and there are no rows of
+-- the lazy DFA and no sure steps
 pub record HasNotSearched (settings : Config) (r : RegexState) : Type 0 where
   pub visited_capacity : r.choice.visited_capacity ≡ settings.backtrack_visited_capacity
   pub match_kind : r.choice.match_kind ≡ None
@@ -69,6 +72,7 @@ pub record HasNotSearched (settings : Config) (r : RegexState) : Type 0 where
   pub ran : r.choice.ran ≡ None
   pub config : r.config ≡ settings
   pub rows : r.rows ≡ 0
+  pub steps : r.steps ≡ 0
 
 -- The NFA is what the builder compiles these texts to: one that reads them by the builder's syntax, within its size
 -- limit. It is in UTF-8 mode, and bound to starts, as the builder is set.

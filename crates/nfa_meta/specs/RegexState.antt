@@ -9,28 +9,33 @@ use Rattle.nfa_meta.specs.declared.builder.Config.{Config}
 abbrev pub row_capacity : Config → ℕ
 row_capacity c = if c.hybrid then c.hybrid_cache_capacity else 0
 
--- what its choice shows, the settings, the bytes that the rows of the lazy DFA take, and how many of the DFA's searches
--- stopped without an answer
+-- the most bytes that sure steps may take: none if there are to be none
+abbrev pub step_capacity : Config → ℕ
+step_capacity c = if c.onepass then c.onepass_size_limit else 0
+
+-- what its choice shows, the settings, the bytes that the rows of the lazy DFA take, how many of the DFA's searches
+-- stopped without an answer, and the bytes that sure steps take
 pub record RegexState : Type 0 where
   pub choice : ChoiceState
   pub config : Config
   pub rows : ℕ
   pub stops : ℕ
+  pub steps : ℕ
 
 -- the PikeVM of its choice, which defines its answers
 abbrev pub pike_of : RegexState → Pike
 pike_of r = pike_of_choice r.choice
 
--- the bytes of the rows and of both caches of the choice, or the maximum `usize` if they are more
+-- the bytes of the rows, of both caches of the choice and of sure steps, or the maximum `usize` if they are more
 abbrev pub bytes_of : RegexState → ℕ
-bytes_of r = min (memory_of r.choice.back + pike_memory_of r.choice.pike + r.rows) (2 ^ 64 - 1)
+bytes_of r = min (memory_of r.choice.back + pike_memory_of r.choice.pike + r.rows + r.steps) (2 ^ 64 - 1)
 
--- the rows take no more bytes than they may
+-- rows and steps take no more bytes than they may
 abbrev pub HasRoom : RegexState → Type 0
-HasRoom r = r.rows ≤ row_capacity r.config
+HasRoom r = (r.rows ≤ row_capacity r.config) × (r.steps ≤ step_capacity r.config)
 
--- What a search keeps: the engines of the choice, and the settings. The rows have room, if they had before, and no stop
--- is forgotten.
+-- What a search keeps: the engines of the choice, and the settings. Rows and steps have room, if they had before, and
+-- no stop is forgotten.
 pub record KeepsRegex (old new : RegexState) : Type 0 where
   pub engines : KeepsEngines old.choice new.choice
   pub config : new.config ≡ old.config

@@ -6,6 +6,8 @@ ghost use Rattle.nfa_meta.specs.Built.{HasNotSearched, IsBuiltFrom, IsWhyNotBuil
 ghost use Rattle.nfa_meta.specs.Built.{default_settings, regex_of};
 ghost use Rattle.nfa_meta.specs.RegexState.{row_capacity};
 
+mod one_pass;
+
 use crate::error::BuildError;
 use crate::regex::Regex;
 use nfa_compiler::{Compiler, Syntax};
@@ -33,11 +35,15 @@ pub struct Config {
     /// The most bytes that the marks of a search of the backtracker may take, or `None` for the default: see
     /// [`Config::backtrack_visited_capacity`].
     pub backtrack_visited_capacity: Option<usize>,
+    /// Whether groups are taken by sure steps where they can be.
+    pub onepass: bool,
+    /// The most bytes that sure steps may take: see [`Config::onepass_size_limit`].
+    pub onepass_size_limit: usize,
 }
 
 impl Config {
     /// Returns the default settings: unanchored, in UTF-8 mode, with a size limit of ten mebibytes; with a lazy DFA of
-    /// at most 16 mebibytes, and a backtracker with its default capacity.
+    /// at most 16 mebibytes, a backtracker with its default capacity, and sure steps of at most one mebibyte.
     ///
     /// ```
     /// let config = Config::new();
@@ -54,6 +60,8 @@ impl Config {
             hybrid: true,
             hybrid_cache_capacity: 16 << 20,
             backtrack_visited_capacity: None,
+            onepass: true,
+            onepass_size_limit: 1 << 20,
         }
     }
 

@@ -100,8 +100,8 @@ impl Model for Regex {
     ghost use Rattle.nfa_match_spans.specs.StatePaths.{RecordsMatchSpans};
     ghost use Rattle.thompson_nfa.specs.Automaton.{IsAutomaton};
     ghost use Rattle.nfa_prefix.specs.Literals.{AreLiteralsOf};
-    ghost use Rattle.nfa_onepass.specs.Tables.{IsFor as IsTableFor};
-    ghost use Rattle.nfa_meta.specs.RegexState.{RegexState, row_capacity};
+    ghost use Rattle.nfa_onepass.specs.Tables.{IsFor as IsTableFor, limit_of, memory_of as steps_memory_of};
+    ghost use Rattle.nfa_meta.specs.RegexState.{RegexState, row_capacity, step_capacity};
 
     ghost Value = { RegexState };
 
@@ -110,6 +110,7 @@ impl Model for Regex {
       config = r.config;
       rows = memory_of r.cache;
       stops = stops_of r.cache;
+      steps = steps_memory_of r.one_pass;
     } };
 
     ghost invariant = { λ r. (nfa_of r.dfa ≡ r.choice.nfa) × (kind_of r.dfa ≡ LeftmostFirst)
@@ -119,7 +120,7 @@ impl Model for Regex {
         × (r.config.backtrack_visited_capacity ≡ r.choice.visited_capacity)
         × IsAutomaton r.choice.nfa × (r.records_spans ≡ true → RecordsMatchSpans r.choice.nfa)
         × AreLiteralsOf r.choice.nfa r.literals
-        × IsTableFor r.choice.nfa r.one_pass };
+        × IsTableFor r.choice.nfa r.one_pass × (limit_of r.one_pass ≡ step_capacity r.config) };
 }
 
 /// Makes a lazy DFA of the NFA.
@@ -193,7 +194,7 @@ impl Regex {
         let Ok(literals) = Literals::new(alloc, &nfa) else {
             return Err(SearchError::Memory);
         };
-        let Ok(one_pass) = OnePass::new(alloc, &nfa) else {
+        let Ok(one_pass) = OnePass::new(alloc, &nfa, config.step_limit()) else {
             return Err(SearchError::Memory);
         };
         let choice = Choice::new(alloc, nfa, config.backtracker(), pikevm::Config::new())?;
@@ -224,8 +225,8 @@ impl Regex {
         self.config
     }
 
-    /// Returns the bytes that the rows of the lazy DFA and the entries of the caches of the [`Choice`] take. The sum
-    /// saturates at `usize::MAX`. The rows take no more than the settings allow.
+    /// Returns the bytes that the rows of the lazy DFA, the entries of the caches of the [`Choice`] and sure steps
+    /// take. The sum saturates at `usize::MAX`. Rows and steps take no more than the settings allow.
     ///
     /// ```
     /// // regex of "foo[0-9]+"
@@ -238,7 +239,8 @@ impl Regex {
         ensures capacity { HasRoom self.now }
     {
         let rows = self.cache.memory_usage();
-        self.choice.memory_usage().saturating_add(rows)
+        let caches = self.choice.memory_usage().saturating_add(rows);
+        caches.saturating_add(self.one_pass.memory_usage())
     }
 
     /// Returns the NFA.

@@ -4,7 +4,8 @@ use Rattle.nfa_paths.proofs.Common.{◌≡◌, ◌∙◌, ℕ, ◌≤◌, ◌<�
 use Rattle.thompson_nfa.specs.Automaton.Node.{Match}
 use Rattle.nfa_paths.proofs.MemberLemmas.{In-append, In-append_left, In-append_right, In-map, All-In, same_some}
 use Rattle.nfa_onepass.specs.Ways.{IsSure, Way, free_states, goal_of, here, over, written}
-use Rattle.nfa_onepass.specs.Tables.{GoesOn, HasEmptyList, IsReached, Keeps, list_at, threads_at}
+use Rattle.nfa_onepass.specs.Lists.{HasEmptyList, Keeps, list_at}
+use Rattle.nfa_onepass.specs.Tables.{GoesOn, IsReached, threads_at}
 use Rattle.nfa_onepass.specs.declared.way.WayEnd.{WayEnd}
 use Rattle.nfa_onepass.specs.declared.way.Thread.{Thread}
 use Rattle.nfa_onepass.proofs.WayLemmas.{In-mapped}

@@ -1,9 +1,10 @@
 -- A table that grows keeps its steps, and a walk that takes one goes on.
 use Rattle.std.specs.Global.{Vec}
-use Rattle.nfa_paths.proofs.Common.{◌≡◌, ◌∙◌, ℕ, zero, suc, ◌+◌, ◌<◌, ◌⊎◌, inl, inr, List, [], ◌∷◌, ◌++◌, replicate, slice_get, slice_set, slice_index_or, get_or_from_slice_get, none-some, refl, sym, ap, subst, arith, length, Option, None, Some, option_map, Automaton, Search, Slots, byte_at, start_state, length-replicate}
+use Rattle.nfa_paths.proofs.Common.{◌≡◌, ◌∙◌, ℕ, zero, suc, ◌+◌, ◌*◌, ◌<◌, ◌≤◌, ◌⊎◌, inl, inr, List, [], ◌∷◌, ◌++◌, replicate, slice_get, slice_set, slice_index_or, get_or_from_slice_get, none-some, refl, sym, ap, subst, arith, length, length-append, length-set, Option, None, Some, option_map, Automaton, Search, Slots, byte_at, start_state, length-replicate}
 use Rattle.nfa_paths.proofs.MemberLemmas.{same_some}
 use Rattle.nfa_onepass.specs.Ways.{IsOnWay, IsOnly, IsSure, write_each}
-use Rattle.nfa_onepass.specs.Tables.{HasEmptyList, IsFor, IsFresh, IsStep, IsWalking, Keeps, KeepsRows, Takes, byte_of, list_at, state_at}
+use Rattle.nfa_onepass.specs.Lists.{HasEmptyList, Keeps, list_at}
+use Rattle.nfa_onepass.specs.Tables.{IsFor, IsFresh, IsStep, IsWalking, KeepsRows, Takes, byte_of, limit_of, memory_of, state_at}
 use Rattle.nfa_onepass.specs.declared.table.Cell.{Cell}
 use Rattle.nfa_onepass.specs.declared.table.OnePass.{OnePass}
 use Rattle.nfa_onepass.specs.declared.table.Row.{Row}
@@ -77,14 +78,14 @@ IsWalking-begin nfa x t row s count slots begins is unset =
 
 -- A walk at the end of the span, and the step to a Match there, give the slots and the pattern.
 pub IsWalking-end : (nfa : Automaton) (x : Search) (t u : OnePass) (row p : ℕ) (cell : Cell) (slots after : Slots)
-    → (h : IsWalking nfa x t row x.end slots) → IsStep nfa u.rows.items u.lists.items h.state 256 cell
-    → p ≡ cell.goal → after ≡ write_each (list_at u.lists.items cell.list) x.end slots → IsOnly nfa x p after
+    → (h : IsWalking nfa x t row x.end slots) → IsStep nfa u.rows.items u.lists.items.items h.state 256 cell
+    → p ≡ cell.goal → after ≡ write_each (list_at u.lists.items.items cell.list) x.end slots → IsOnly nfa x p after
 IsWalking-end nfa x t u row p cell slots after h step is writes =
     let k : step.goal ≡ p = sym (step.ends (omega arith)) ∙ sym is in
     subst (λ (z : Slots). IsOnly nfa x p z) (sym writes)
-    (subst (λ (n : ℕ). IsOnly nfa x n (write_each (list_at u.lists.items cell.list) x.end slots)) k
-    (IsOnly-end nfa x (length slots) h.first h.state step.goal (list_at u.lists.items cell.list) slots refl h.begins h.on
-    step.sure))
+    (subst (λ (n : ℕ). IsOnly nfa x n (write_each (list_at u.lists.items.items cell.list) x.end slots)) k
+    (IsOnly-end nfa x (length slots) h.first h.state step.goal (list_at u.lists.items.items cell.list) slots refl
+    h.begins h.on step.sure))
 
 -- what a list holds after one of its elements was set
 set-cases : {A : Type 0} (xs : List A) (i j : ℕ) (y z : A) → slice_get (slice_set xs i y) j ≡ Some z
@@ -131,19 +132,31 @@ pub KeepsRows-set : (rows : List Row) (i column : ℕ) (kept : Row) (cell : Cell
 KeepsRows-set rows i column kept cell is j s e =
     state-set rows i j kept (record { state = kept.state; cells = slice_set kept.cells column cell }) is refl ∙ e
 
+-- both tables have the same limits
+pub record SameLimits (t u : OnePass) : Type 0 where
+  pub rows : u.most_rows ≡ t.most_rows
+  pub lists : u.lists.most ≡ t.lists.most
+  pub limit : u.limit ≡ t.limit
+
+-- so a table has room if the other one has
+room-same : (t u : OnePass) → SameLimits t u → 2060 * t.most_rows + t.lists.most ≤ t.limit
+    → 2060 * u.most_rows + u.lists.most ≤ u.limit
+room-same t u same room = omega (arith, same.rows, same.lists, same.limit, room)
+
 pub IsFor-set : (nfa : Automaton) (t u : OnePass) (i column s : ℕ) (kept : Row) (cell : Cell)
     → kept ≡ slice_index_or t.rows.items i kept
     → u.rows.items
     ≡ slice_set t.rows.items i (record { state = kept.state; cells = slice_set kept.cells column cell })
-    → u.lists.items ≡ t.lists.items → IsFor nfa t → state_at t.rows.items i ≡ Some s
-    → (cell.goal < 4294967294 → IsStep nfa t.rows.items t.lists.items s column cell) → IsFor nfa u
-IsFor-set nfa t u i column s kept cell is rows lists h here step =
+    → u.lists.items.items ≡ t.lists.items.items → SameLimits t u → IsFor nfa t → state_at t.rows.items i ≡ Some s
+    → (cell.goal < 4294967294 → IsStep nfa t.rows.items t.lists.items.items s column cell) → IsFor nfa u
+IsFor-set nfa t u i column s kept cell is rows lists same h here step =
     let new : Row = record { state = kept.state; cells = slice_set kept.cells column cell } in
     let more : KeepsRows t.rows.items u.rows.items =
     subst (KeepsRows t.rows.items) (sym rows) (KeepsRows-set t.rows.items i column kept cell is) in
-    let old : Keeps t.lists.items u.lists.items = subst (Keeps t.lists.items) (sym lists) (Keeps-refl t.lists.items) in
+    let old : Keeps t.lists.items.items u.lists.items.items =
+    subst (Keeps t.lists.items.items) (sym lists) (Keeps-refl t.lists.items.items) in
     let carry = λ (z k : ℕ) (c : Cell).
-    IsStep-keeps nfa t.rows.items u.rows.items t.lists.items u.lists.items z k c more old in
+    IsStep-keeps nfa t.rows.items u.rows.items t.lists.items.items u.lists.items.items z k c more old in
     record {
       states = λ row z e. h.states row z (sym (state-set t.rows.items i row kept new is refl)
           ∙ ap (λ (xs : List Row). state_at xs row) (sym rows) ∙ e);
@@ -154,7 +167,7 @@ IsFor-set nfa t u i column s kept cell is rows lists h here step =
                 ∙ get_or_from_slice_get t.rows.items row m.2.0 kept m.2.1 in
                 let there : slice_get t.rows.items row ≡ Some kept = m.2.1 ∙ ap (λ (z : Row). Some z) (sym x_is) in
                 let states_are : kept.state ≡ r.state = ap (λ (z : Row). z.state) (sym m.1) in
-                subst (λ (z : ℕ). IsStep nfa u.rows.items u.lists.items z k c) states_are
+                subst (λ (z : ℕ). IsStep nfa u.rows.items u.lists.items.items z k c) states_are
                 (elim (set-cases kept.cells column k cell c
                 (ap (λ (z : Row). slice_get z.cells k) (sym m.1) ∙ f)) [
                   | inl n ↦
@@ -162,15 +175,23 @@ IsFor-set nfa t u i column s kept cell is rows lists h here step =
                       ∙ ap (λ (q : ℕ). state_at t.rows.items q) m.0
                       ∙ ap (λ (o : Option Row). option_map (λ (z : Row). z.state) o) there) in
                       let c_low : cell.goal < 4294967294 = subst (λ (z : Cell). z.goal < 4294967294) n.1 low in
-                      carry kept.state k c (subst (λ (z : ℕ). IsStep nfa t.rows.items t.lists.items z k c) s_is
-                      (subst (λ (q : ℕ). IsStep nfa t.rows.items t.lists.items s q c) n.0
-                      (subst (λ (z : Cell). IsStep nfa t.rows.items t.lists.items s column z) (sym n.1) (step c_low))))
+                      carry kept.state k c (subst (λ (z : ℕ). IsStep nfa t.rows.items t.lists.items.items z k c) s_is
+                      (subst (λ (q : ℕ). IsStep nfa t.rows.items t.lists.items.items s q c) n.0
+                      (subst (λ (z : Cell). IsStep nfa t.rows.items t.lists.items.items s column z) (sym n.1)
+                      (step c_low))))
                   | inr n ↦ carry kept.state k c (h.steps row k kept c there n low)
                 ])
             | inr there ↦ carry r.state k c (h.steps row k r c there f low)
           ];
       first = subst HasEmptyList (sym lists) h.first;
+      fits = omega (arith, h.fits, same.rows, ap length rows, length-set t.rows.items i new);
+      few = omega (arith, h.few, same.rows);
+      room = room-same t u same h.room;
     }
+
+-- a table takes no more bytes than it may
+pub IsFor-within : (nfa : Automaton) (t : OnePass) → IsFor nfa t → memory_of t ≤ limit_of t
+IsFor-within nfa t h = omega (arith, h.fits, h.room, t.lists.counted.within)
 
 -- a row that has a state is there
 row-there : (rows : List Row) (row s : ℕ) → state_at rows row ≡ Some s
@@ -181,11 +202,13 @@ row-there (x ∷ rows) (suc row) s e = row-there rows row s e
 
 -- and so is a table with a row added that has no step
 pub IsFor-push : (nfa : Automaton) (t u : OnePass) (r : Row) (s : ℕ) → u.rows.items ≡ t.rows.items ++ r ∷ []
-    → u.lists.items ≡ t.lists.items → IsFor nfa t → IsFresh r s → s < length nfa.states → IsFor nfa u
-IsFor-push nfa t u r s rows lists h fresh inside =
+    → u.lists.items.items ≡ t.lists.items.items → SameLimits t u → length t.rows.items < t.most_rows → IsFor nfa t
+    → IsFresh r s → s < length nfa.states → IsFor nfa u
+IsFor-push nfa t u r s rows lists limits more_fit h fresh inside =
     let more : KeepsRows t.rows.items u.rows.items =
     subst (KeepsRows t.rows.items) (sym rows) (KeepsRows-push t.rows.items r) in
-    let old : Keeps t.lists.items u.lists.items = subst (Keeps t.lists.items) (sym lists) (Keeps-refl t.lists.items) in
+    let old : Keeps t.lists.items.items u.lists.items.items =
+    subst (Keeps t.lists.items.items) (sym lists) (Keeps-refl t.lists.items.items) in
     record {
       states = λ row z e.
           let w = row-there u.rows.items row z e in
@@ -202,19 +225,25 @@ IsFor-push nfa t u r s rows lists h fresh inside =
             | inl same ↦
                 let none = fresh.unknown k c (ap (λ (y : Row). slice_get y.cells k) (sym same) ∙ f) in
                 absurd (omega (arith, none, low))
-            | inr there ↦ IsStep-keeps nfa t.rows.items u.rows.items t.lists.items u.lists.items q.state k c more old
-                (h.steps row k q c there f low)
+            | inr there ↦ IsStep-keeps nfa t.rows.items u.rows.items t.lists.items.items u.lists.items.items q.state k c
+                more old (h.steps row k q c there f low)
           ];
       first = subst HasEmptyList (sym lists) h.first;
+      fits = omega (arith, more_fit, limits.rows, ap length rows, length-append t.rows.items (r ∷ []));
+      few = omega (arith, h.few, limits.rows);
+      room = room-same t u limits h.room;
     }
 
 -- a table is one of the NFA whatever lists are added
-pub IsFor-lists : (nfa : Automaton) (t u : OnePass) → u.rows.items ≡ t.rows.items → Keeps t.lists.items u.lists.items
-    → IsFor nfa t → IsFor nfa u
-IsFor-lists nfa t u rows keeps h = record {
+pub IsFor-lists : (nfa : Automaton) (t u : OnePass) → u.rows.items ≡ t.rows.items
+    → Keeps t.lists.items.items u.lists.items.items → SameLimits t u → IsFor nfa t → IsFor nfa u
+IsFor-lists nfa t u rows keeps same h = record {
   states = λ row z e. h.states row z (ap (λ (xs : List Row). state_at xs row) (sym rows) ∙ e);
-  steps = λ row k r c e f low. IsStep-keeps nfa t.rows.items u.rows.items t.lists.items u.lists.items r.state k c
-      (λ j s g. ap (λ (xs : List Row). state_at xs j) rows ∙ g) keeps
+  steps = λ row k r c e f low. IsStep-keeps nfa t.rows.items u.rows.items t.lists.items.items u.lists.items.items
+      r.state k c (λ j s g. ap (λ (xs : List Row). state_at xs j) rows ∙ g) keeps
       (h.steps row k r c (ap (λ (xs : List Row). slice_get xs row) (sym rows) ∙ e) f low);
-  first = HasEmptyList-keeps t.lists.items u.lists.items keeps h.first;
+  first = HasEmptyList-keeps t.lists.items.items u.lists.items.items keeps h.first;
+  fits = omega (arith, h.fits, same.rows, ap length rows);
+  few = omega (arith, h.few, same.rows);
+  room = room-same t u same h.room;
 }

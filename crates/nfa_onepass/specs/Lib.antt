@@ -1,3 +1,4 @@
+pub mod Lists
 pub mod Ways
 pub mod Tables
 pub mod OnlyLaws

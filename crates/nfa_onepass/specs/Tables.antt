@@ -1,31 +1,17 @@
 -- The table of sure steps.
-use Rattle.std.specs.Prelude.{◌≡◌, ℕ, ◌≤◌, ◌<◌, ◌⊎◌, List, [], ◌∷◌, ◌++◌, length, map, Option, None, Some, option_map, slice_get, if◌then◌else◌, nat_lt}
+use Rattle.std.specs.Prelude.{◌≡◌, ℕ, ◌≤◌, ◌<◌, ◌+◌, ◌*◌, ◌⊎◌, List, [], ◌∷◌, ◌++◌, length, map, Option, None, Some, option_map, slice_get, if◌then◌else◌, nat_lt}
 use Rattle.std.specs.Global.{Vec}
-use Rattle.std.specs.Option.{option_map_or}
 use Rattle.thompson_nfa.specs.Automaton.{Automaton}
 use Rattle.regex_search_core.specs.Search.{Search}
 use Rattle.nfa_paths.specs.Exploring.{Slots}
 use Rattle.nfa_paths.specs.Paths.{node_at, start_state}
+use Rattle.nfa_onepass.specs.Lists.{HasEmptyList, list_at}
 use Rattle.nfa_onepass.specs.Ways.{IsOnWay, IsSure, free_states, write_each, written}
 use Rattle.nfa_onepass.specs.declared.table.Cell.{Cell}
 use Rattle.nfa_onepass.specs.declared.table.OnePass.{OnePass}
 use Rattle.nfa_onepass.specs.declared.table.Row.{Row}
 use Rattle.nfa_onepass.specs.declared.way.WayEnd.{WayEnd}
 use Rattle.nfa_onepass.specs.declared.way.Thread.{Thread}
-
--- the list of this number
-abbrev pub list_at : List (Vec ℕ) → ℕ → List ℕ
-list_at lists i = option_map_or (λ (l : Vec ℕ). l.items) (slice_get lists i) []
-
--- the first list is empty
-pub record HasEmptyList (lists : List (Vec ℕ)) : Type 0 where
-  pub some : 0 < length lists
-  pub empty : list_at lists 0 ≡ []
-
--- lists were added after those that were there
-pub record Keeps (old new : List (Vec ℕ)) : Type 0 where
-  pub longer : length old ≤ length new
-  pub same : (i : ℕ) → i < length old → list_at new i ≡ list_at old i
 
 -- threads at these states with this list
 abbrev pub threads_at : ℕ → List ℕ → List Thread
@@ -65,8 +51,19 @@ pub record IsFor (nfa : Automaton) (t : OnePass) : Type 0 where
   pub states : (row s : ℕ) → state_at t.rows.items row ≡ Some s → s < length nfa.states
   pub steps : (row column : ℕ) (r : Row) (cell : Cell) → slice_get t.rows.items row ≡ Some r
       → slice_get r.cells column ≡ Some cell → cell.goal < 4294967294
-      → IsStep nfa t.rows.items t.lists.items r.state column cell
-  pub first : HasEmptyList t.lists.items
+      → IsStep nfa t.rows.items t.lists.items.items r.state column cell
+  pub first : HasEmptyList t.lists.items.items
+  pub fits : length t.rows.items ≤ t.most_rows
+  pub few : t.most_rows ≤ 1024
+  pub room : 2060 * t.most_rows + t.lists.most ≤ t.limit
+
+-- the bytes that its rows take, and the slots of its lists
+abbrev pub memory_of : OnePass → ℕ
+memory_of t = 2060 * length t.rows.items + t.lists.taken
+
+-- the most bytes that they may take
+abbrev pub limit_of : OnePass → ℕ
+limit_of t = t.limit
 
 -- A walk is at this row at the position, with these slots: it is on the way from the start of the search.
 pub record IsWalking (nfa : Automaton) (x : Search) (t : OnePass) (row at : ℕ) (slots : Slots) : Type 0 where

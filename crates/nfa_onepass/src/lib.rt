@@ -2,6 +2,7 @@
 #![tactic(auto)]
 
 pub mod laws;
+mod lists;
 mod table;
 mod walk;
 mod way;

@@ -1,8 +1,10 @@
 //! The table of sure steps: a row for each state that a walk came to, with a cell for each byte and one for the end.
-ghost use Rattle.std.specs.Prelude.{◌≡◌, ℕ, ◌<◌, ◌≤◌, IfOk, IfSome, Some, length};
-ghost use Rattle.nfa_onepass.specs.Tables.{IsAddedIf, IsFor, IsFresh, IsReached, IsStep, KeepsRows, byte_of, state_at};
+ghost use Rattle.std.specs.Prelude.{◌≡◌, ℕ, ◌*◌, ◌<◌, ◌≤◌, IfOk, IfSome, Some, length, min};
+ghost use Rattle.nfa_onepass.specs.Tables.{IsAddedIf, IsFor, IsFresh, IsReached, IsStep, KeepsRows, byte_of, limit_of};
+ghost use Rattle.nfa_onepass.specs.Tables.{memory_of, state_at};
 
-use crate::way::{NO_SLOTS, Thread, WayEnd, only_way};
+use crate::lists::{Lists, NO_SLOTS};
+use crate::way::{Thread, WayEnd, only_way};
 use regex_search_core::StateID;
 use std::alloc::{AllocError, Global};
 use thompson_nfa::NFA;
@@ -21,6 +23,9 @@ pub const UNSURE: u32 = u32::MAX - 1;
 
 /// The maximum number of rows.
 const MAX_ROWS: usize = 1024;
+
+/// The bytes that a row takes.
+const ROW_BYTES: usize = 2060;
 
 /// A row that no state has.
 const NO_ROW: u32 = u32::MAX;
@@ -46,8 +51,12 @@ pub struct OnePass {
     /// The row of each state, if it has one. It is compared before it is used.
     numbers: Vec<u32>,
     /// Lists of slots that a step writes. The first one is empty.
-    pub(crate) lists: Vec<Vec<usize>>,
+    pub(crate) lists: Lists,
     stack: Vec<Thread>,
+    /// The number of rows that there is room for.
+    pub(crate) most_rows: usize,
+    /// The most bytes that rows and lists may take.
+    limit: usize,
     /// What searches that met a step that is not sure add, less what the others take off.
     pub(crate) misses: u32,
 }
@@ -62,6 +71,14 @@ fn byte_of(column: usize) -> Option<u8>
     } else {
         None
     }
+}
+
+/// The most rows that take no more than these bytes.
+fn rows_within(bytes: usize) -> usize
+    ensures within { 2060 * result ≤ bytes }
+    ensures few { result ≤ 1024 }
+{
+    (bytes / ROW_BYTES).min(MAX_ROWS)
 }
 
 /// A row of the state, without steps.
@@ -86,20 +103,38 @@ fn push(rows: &mut Vec<Row>, row: Row)
 }
 
 impl OnePass {
-    /// Makes an empty table for searches of the NFA.
-    pub fn new(alloc: Global, nfa: &NFA) -> Result<OnePass, AllocError>
-        ensures { IfOk result (IsFor nfa.now) }
+    /// Makes an empty table for searches of the NFA. Its rows and the slots of its lists may take this many bytes: 2060
+    /// for each row, and 8 for each slot. Without room for a row it is off.
+    pub fn new(alloc: Global, nfa: &NFA, limit: usize) -> Result<OnePass, AllocError>
+        ensures own { IfOk result (IsFor nfa.now) }
+        ensures none { IfOk result (λ made. memory_of made ≡ 0) }
+        ensures limit { IfOk result (λ made. limit_of made ≡ limit) }
     {
-        let numbers = vec![in alloc; NO_ROW; nfa.states().len()]?;
-        let mut lists = Vec::new(alloc);
-        lists.push(Vec::new(alloc))?;
+        let of_lists = limit / 8;
+        let most_rows = rows_within(limit - of_lists);
+        let states = if most_rows == 0 {
+            0
+        } else {
+            nfa.states().len()
+        };
+        let numbers = vec![in alloc; NO_ROW; states]?;
         Ok(OnePass {
             rows: Vec::new(alloc),
             numbers,
-            lists,
+            lists: Lists::new(alloc, of_lists)?,
             stack: Vec::new(alloc),
+            most_rows,
+            limit,
             misses: 0,
         })
+    }
+
+    /// Returns the bytes that the rows take, and the slots of the lists. They are no more than the limit.
+    pub fn memory_usage(&self) -> usize
+        ensures { result ≡ min (memory_of self.now) usize.MAX }
+    {
+        let rows = self.rows.len().saturating_mul(ROW_BYTES);
+        rows.saturating_add(self.lists.memory_usage())
     }
 
     /// The row of the state, if it has one.
@@ -117,6 +152,7 @@ impl OnePass {
         requires state { sid < length nfa.now.states }
         ensures own { IsFor nfa.now self.new }
         ensures keeps { KeepsRows self.old.rows.items self.new.rows.items }
+        ensures limit { self.new.limit ≡ self.old.limit }
         ensures lists { self.new.lists ≡ self.old.lists }
         ensures row { IfSome result (λ row. state_at self.new.rows.items row ≡ Some sid) }
     {
@@ -133,10 +169,11 @@ impl OnePass {
         requires state { sid < length nfa.now.states }
         ensures own { IsFor nfa.now self.new }
         ensures keeps { KeepsRows self.old.rows.items self.new.rows.items }
+        ensures limit { self.new.limit ≡ self.old.limit }
         ensures lists { self.new.lists ≡ self.old.lists }
     {
         let number = self.rows.len();
-        if number >= MAX_ROWS {
+        if number >= self.most_rows {
             return;
         }
         self.push_row(nfa, sid);
@@ -146,9 +183,11 @@ impl OnePass {
     /// Adds a row for the state, without steps, if there is memory.
     fn push_row(&mut self, nfa: &NFA, sid: StateID)
         requires own { IsFor nfa.now self.old }
+        requires room { length self.old.rows.items < self.old.most_rows }
         requires state { sid < length nfa.now.states }
         ensures own { IsFor nfa.now self.new }
         ensures keeps { KeepsRows self.old.rows.items self.new.rows.items }
+        ensures limit { self.new.limit ≡ self.old.limit }
         ensures lists { self.new.lists ≡ self.old.lists }
     {
         push(&mut self.rows, fresh_row(sid));
@@ -158,6 +197,8 @@ impl OnePass {
     fn note(&mut self, sid: StateID, number: u32)
         ensures rows { self.new.rows ≡ self.old.rows }
         ensures lists { self.new.lists ≡ self.old.lists }
+        ensures limit { self.new.limit ≡ self.old.limit }
+        ensures most { self.new.most_rows ≡ self.old.most_rows }
     {
         let index = sid.as_usize();
         if index < self.numbers.len() {
@@ -177,7 +218,7 @@ impl OnePass {
     fn known(&self, nfa: &NFA, row: u32, column: usize) -> Option<Cell>
         requires own { IsFor nfa.now self.now }
         ensures { IfSome result (λ cell. (s : ℕ) → state_at self.now.rows.items row ≡ Some s → cell.goal < 4294967294
-            → IsStep nfa.now self.now.rows.items self.now.lists.items s column cell) }
+            → IsStep nfa.now self.now.rows.items self.now.lists.items.items s column cell) }
     {
         let kept = self.rows.get(row as usize)?;
         let cell = kept.cells.get(column)?;
@@ -191,8 +232,9 @@ impl OnePass {
         requires column { column < 257 }
         ensures own { IsFor nfa.now self.new }
         ensures keeps { KeepsRows self.old.rows.items self.new.rows.items }
+        ensures limit { self.new.limit ≡ self.old.limit }
         ensures step { (s : ℕ) → state_at self.old.rows.items row ≡ Some s
-            → IfSome result (IsStep nfa.now self.new.rows.items self.new.lists.items s column) }
+            → IfSome result (IsStep nfa.now self.new.rows.items self.new.lists.items.items s column) }
     {
         let cell = self.known(nfa, row, column)?;
         if cell.goal < UNSURE {
@@ -214,7 +256,8 @@ impl OnePass {
         requires column { column < 257 }
         ensures own { IsFor nfa.now self.new }
         ensures keeps { KeepsRows self.old.rows.items self.new.rows.items }
-        ensures step { IfSome result (IsStep nfa.now self.new.rows.items self.new.lists.items sid column) }
+        ensures limit { self.new.limit ≡ self.old.limit }
+        ensures step { IfSome result (IsStep nfa.now self.new.rows.items self.new.lists.items.items sid column) }
     {
         let Some(reached) = self.find_way(nfa, sid, column) else {
             let unsure = Cell {
@@ -236,7 +279,8 @@ impl OnePass {
         requires column { column < 257 }
         ensures own { IsFor nfa.now self.new }
         ensures rows { self.new.rows ≡ self.old.rows }
-        ensures reached { IfSome result (IsReached nfa.now self.new.lists.items sid (byte_of column)) }
+        ensures limit { self.new.limit ≡ self.old.limit }
+        ensures reached { IfSome result (IsReached nfa.now self.new.lists.items.items sid (byte_of column)) }
     {
         only_way(nfa, &mut self.lists, &mut self.stack, sid, byte_of(column))
     }
@@ -245,10 +289,11 @@ impl OnePass {
     fn cell_to(&mut self, nfa: &NFA, sid: StateID, column: usize, reached: WayEnd) -> Option<Cell>
         requires own { IsFor nfa.now self.old }
         requires column { column < 257 }
-        requires reached { IsReached nfa.now self.old.lists.items sid (byte_of column) reached }
+        requires reached { IsReached nfa.now self.old.lists.items.items sid (byte_of column) reached }
         ensures own { IsFor nfa.now self.new }
         ensures keeps { KeepsRows self.old.rows.items self.new.rows.items }
-        ensures step { IfSome result (IsStep nfa.now self.new.rows.items self.new.lists.items sid column) }
+        ensures limit { self.new.limit ≡ self.old.limit }
+        ensures step { IfSome result (IsStep nfa.now self.new.rows.items self.new.lists.items.items sid column) }
     {
         if column == END {
             return Some(Cell {
@@ -273,9 +318,10 @@ impl OnePass {
         requires here { state_at self.old.rows.items row ≡ Some sid }
         requires column { column < 257 }
         requires step { cell.goal < 4294967294
-            → IsStep nfa.now self.old.rows.items self.old.lists.items sid column cell }
+            → IsStep nfa.now self.old.rows.items self.old.lists.items.items sid column cell }
         ensures own { IsFor nfa.now self.new }
         ensures keeps { KeepsRows self.old.rows.items self.new.rows.items }
+        ensures limit { self.new.limit ≡ self.old.limit }
         ensures lists { self.new.lists ≡ self.old.lists }
     {
         if row as usize >= self.rows.len() {

@@ -3,7 +3,8 @@ ghost use Rattle.std.specs.Prelude.{◌≡◌, ◌<◌, ◌≤◌, IfSome, None,
 ghost use Rattle.regex_search_core.specs.Search.{search_of};
 ghost use Rattle.regex_search_core.specs.PatternSets.{number_of};
 ghost use Rattle.nfa_onepass.specs.Ways.{IsOnly, write_each};
-ghost use Rattle.nfa_onepass.specs.Tables.{IsFor, IsWalking, Takes, list_at, state_at};
+ghost use Rattle.nfa_onepass.specs.Lists.{list_at};
+ghost use Rattle.nfa_onepass.specs.Tables.{IsFor, IsWalking, Takes, limit_of, state_at};
 
 use crate::table::{END, OnePass};
 use nfa_scan_core::starts::start_state;
@@ -43,9 +44,10 @@ fn pattern_of(goal: u32) -> Option<PatternID>
 }
 
 impl OnePass {
-    /// Returns whether a search is worth its time: earlier ones met sure steps often enough.
+    /// Returns whether a search is worth its time: there is room for steps, and earlier searches met sure steps often
+    /// enough.
     pub fn is_on(&self) -> bool {
-        self.misses < MAX_MISSES
+        self.most_rows > 0 && self.misses < MAX_MISSES
     }
 
     /// Writes the slots of each path through the NFA that begins at the start of the span and ends at its end with a
@@ -58,6 +60,7 @@ impl OnePass {
     ) -> Option<PatternID>
         requires own { IsFor nfa.now self.old }
         ensures own { IsFor nfa.now self.new }
+        ensures limit { limit_of self.new ≡ limit_of self.old }
         ensures only { IfSome result (λ p. IsOnly nfa.now (search_of input.now) (number_of p) slots.new) }
     {
         if input.is_done() {
@@ -72,6 +75,8 @@ impl OnePass {
     fn count(&mut self, found: bool)
         ensures rows { self.new.rows ≡ self.old.rows }
         ensures lists { self.new.lists ≡ self.old.lists }
+        ensures limit { self.new.limit ≡ self.old.limit }
+        ensures most { self.new.most_rows ≡ self.old.most_rows }
     {
         self.misses = if found {
             self.misses.saturating_sub(1)
@@ -90,6 +95,7 @@ impl OnePass {
         requires own { IsFor nfa.now self.old }
         requires order { (search_of input.now).start ≤ (search_of input.now).end }
         ensures own { IsFor nfa.now self.new }
+        ensures limit { self.new.limit ≡ self.old.limit }
         ensures only { IfSome result (λ p. IsOnly nfa.now (search_of input.now) (number_of p) slots.new) }
     {
         let sid = start_state(nfa, input)?;
@@ -116,6 +122,7 @@ impl OnePass {
         requires order { (search_of input.now).start ≤ (search_of input.now).end }
         requires walking { IsWalking nfa.now (search_of input.now) self.old first (search_of input.now).start slots.old }
         ensures own { IsFor nfa.now self.new }
+        ensures limit { self.new.limit ≡ self.old.limit }
         ensures walking { IfSome result (λ row.
             IsWalking nfa.now (search_of input.now) self.new row (search_of input.now).end slots.new) }
     {
@@ -131,9 +138,9 @@ impl OnePass {
     #[inline(always)]
     fn write_list(&self, list: u32, slots: &mut [Option<NonMaxUsize>], at: usize) -> bool
         requires { at < usize.MAX }
-        ensures { result ≡ true → slots.new ≡ write_each (list_at self.now.lists.items list) at slots.old }
+        ensures { result ≡ true → slots.new ≡ write_each (list_at self.now.lists.items.items list) at slots.old }
     {
-        match self.lists.get(list as usize) {
+        match self.lists.get(list) {
             Some(list) => {
                 write_each(list, slots, at);
                 true
@@ -155,6 +162,7 @@ impl OnePass {
         requires own { IsFor nfa.now self.old }
         requires at { at < usize.MAX }
         ensures own { IsFor nfa.now self.new }
+        ensures limit { self.new.limit ≡ self.old.limit }
         ensures takes { (s : ℕ) → state_at self.old.rows.items row ≡ Some s
             → IfSome result (Takes nfa.now self.new s byte at slots.old slots.new) }
     {

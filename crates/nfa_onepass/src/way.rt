@@ -1,21 +1,17 @@
 //! The only way from a state to one that reads a byte, or to a Match.
-ghost use Rattle.std.specs.Prelude.{◌≡◌, ◌<◌, ◌≤◌, ◌++◌, ◌∷◌, [], IfSome, length, true, vec_len};
+ghost use Rattle.std.specs.Prelude.{◌≡◌, ◌<◌, ◌≤◌, ◌++◌, ◌∷◌, [], IfSome, length, true};
 ghost use Rattle.thompson_nfa.specs.Automaton.{node_of};
 ghost use Rattle.nfa_onepass.specs.Ways.{free_states, goal_of, written};
-ghost use Rattle.nfa_onepass.specs.Tables.{GoesOn, HasEmptyList, IsReached, Keeps, list_at, threads_at};
+ghost use Rattle.nfa_onepass.specs.Lists.{HasEmptyList, Keeps, list_at};
+ghost use Rattle.nfa_onepass.specs.Tables.{GoesOn, IsReached, threads_at};
 
+use crate::lists::{Lists, NO_SLOTS};
 use nfa_scan_core::transitions::target;
 use regex_search_core::StateID;
 use thompson_nfa::{NFA, State};
 
 /// The number of states to look at before a step counts as not sure: a cycle of states that read no byte has no end.
 const MAX_TURNS: usize = 4096;
-
-/// The number of the list without slots.
-pub const NO_SLOTS: u32 = 0;
-
-/// The maximum number of lists of slots. It bounds how long a search for one takes.
-const MAX_LISTS: usize = 4096;
 
 /// A state that a way came to, and the list of the slots that it wrote.
 #[derive(Clone, Copy)]
@@ -45,75 +41,16 @@ fn goal(state: &State, byte: Option<u8>) -> Option<u32>
     }
 }
 
-/// Whether the first list is the second one with the slot after it.
-fn is_extended(longer: &[usize], shorter: &[usize], slot: usize) -> bool
-    ensures { result ≡ true → longer.now ≡ shorter.now ++ slot ∷ [] }
-{
-    match longer.split_last() {
-        Some((last, rest)) => *last == slot && rest == shorter,
-        None => false,
-    }
-}
-
-/// The number of a list with the slot after the list of this number, if there is one.
-fn find_extended(lists: &[Vec<usize>], list: u32, slot: usize) -> Option<u32>
-    requires { list < length lists.now }
-    ensures { IfSome result (λ longer. (longer < length lists.now)
-        × (list_at lists.now longer ≡ list_at lists.now list ++ slot ∷ [])) }
-{
-    for index in 0..lists.len().min(MAX_LISTS) {
-        if is_extended(&lists[index], &lists[list as usize], slot) {
-            return Some(index as u32);
-        }
-    }
-    None
-}
-
-/// Adds a list with the slot after the list of this number.
-fn add_extended(lists: &mut Vec<Vec<usize>>, list: u32, slot: usize) -> Option<u32>
-    requires { list < vec_len lists.old }
-    ensures keeps { Keeps lists.old.items lists.new.items }
-    ensures longer { IfSome result (λ longer. (longer < vec_len lists.new)
-        × (list_at lists.new.items longer ≡ list_at lists.old.items list ++ slot ∷ [])) }
-{
-    let index = lists.len();
-    if index >= MAX_LISTS {
-        return None;
-    }
-    let Ok(mut longer) = lists[list as usize].clone() else {
-        return None;
-    };
-    if longer.push(slot).is_err() {
-        return None;
-    }
-    if lists.push(longer).is_err() {
-        return None;
-    }
-    Some(index as u32)
-}
-
-/// The number of a list with the slot after the list of this number.
-fn extended(lists: &mut Vec<Vec<usize>>, list: u32, slot: usize) -> Option<u32>
-    requires { list < vec_len lists.old }
-    ensures keeps { Keeps lists.old.items lists.new.items }
-    ensures longer { IfSome result (λ longer. (longer < vec_len lists.new)
-        × (list_at lists.new.items longer ≡ list_at lists.old.items list ++ slot ∷ [])) }
-{
-    if let Some(longer) = find_extended(lists, list, slot) {
-        return Some(longer);
-    }
-    add_extended(lists, list, slot)
-}
-
 /// The number of the list after the state, if the one before it has this number.
-fn list_after(lists: &mut Vec<Vec<usize>>, state: &State, list: u32) -> Option<u32>
-    requires { list < vec_len lists.old }
-    ensures keeps { Keeps lists.old.items lists.new.items }
-    ensures after { IfSome result (λ after. (after < vec_len lists.new)
-        × (list_at lists.new.items after ≡ list_at lists.old.items list ++ written (node_of state.now))) }
+fn list_after(lists: &mut Lists, state: &State, list: u32) -> Option<u32>
+    requires { list < length lists.old.items.items }
+    ensures keeps { Keeps lists.old.items.items lists.new.items.items }
+    ensures most { lists.new.most ≡ lists.old.most }
+    ensures after { IfSome result (λ after. (after < length lists.new.items.items)
+        × (list_at lists.new.items.items after ≡ list_at lists.old.items.items list ++ written (node_of state.now))) }
 {
     match state {
-        State::Capture { slot, .. } => extended(lists, list, *slot),
+        State::Capture { slot, .. } => lists.extended(list, *slot),
         _ => Some(list),
     }
 }
@@ -144,11 +81,13 @@ fn push_free(stack: &mut Vec<Thread>, state: &State, list: u32) -> bool
 }
 
 /// Goes on from the thread to the states that its state leads to without a byte. Returns whether there was memory.
-fn go_on(nfa: &NFA, lists: &mut Vec<Vec<usize>>, stack: &mut Vec<Thread>, thread: Thread) -> bool
+fn go_on(nfa: &NFA, lists: &mut Lists, stack: &mut Vec<Thread>, thread: Thread) -> bool
     requires state { thread.sid < length nfa.now.states }
-    requires list { thread.list < vec_len lists.old }
-    ensures keeps { Keeps lists.old.items lists.new.items }
-    ensures on { result ≡ true → GoesOn nfa.now lists.old.items lists.new.items stack.old.items stack.new.items thread }
+    requires list { thread.list < length lists.old.items.items }
+    ensures keeps { Keeps lists.old.items.items lists.new.items.items }
+    ensures most { lists.new.most ≡ lists.old.most }
+    ensures on { result ≡ true
+        → GoesOn nfa.now lists.old.items.items lists.new.items.items stack.old.items stack.new.items thread }
 {
     let state = nfa.state(thread.sid);
     match list_after(lists, state, thread.list) {
@@ -161,15 +100,16 @@ fn go_on(nfa: &NFA, lists: &mut Vec<Vec<usize>>, stack: &mut Vec<Thread>, thread
 /// pattern of a `Match`. Returns `None` if there are several such ways, or none, or too many states to look at.
 pub fn only_way(
     nfa: &NFA,
-    lists: &mut Vec<Vec<usize>>,
+    lists: &mut Lists,
     stack: &mut Vec<Thread>,
     sid: StateID,
     byte: Option<u8>,
 ) -> Option<WayEnd>
     requires state { sid < length nfa.now.states }
-    requires first { HasEmptyList lists.old.items }
-    ensures keeps { Keeps lists.old.items lists.new.items }
-    ensures reached { IfSome result (IsReached nfa.now lists.new.items sid byte) }
+    requires first { HasEmptyList lists.old.items.items }
+    ensures keeps { Keeps lists.old.items.items lists.new.items.items }
+    ensures most { lists.new.most ≡ lists.old.most }
+    ensures reached { IfSome result (IsReached nfa.now lists.new.items.items sid byte) }
 {
     stack.clear();
     if !push_each(stack, &[sid], NO_SLOTS) {

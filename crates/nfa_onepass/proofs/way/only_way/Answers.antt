@@ -19,24 +19,23 @@ returns-in_default-clause-reached c =
     let none : waiting.items ≡ [] =
     c.pop.ensures.items ∙ ap (λ (o : Option Thread). c.pop.new.self.items ++ option_to_list o) c.in_default.is
     ∙ ap (λ (ts : List Thread). ts ++ []) empty in
-    IsUnderWay-ends c.args.nfa.now c.args.sid c.args.byte c.turns.lists.items c.turns.found
+    IsUnderWay-ends c.args.nfa.now c.args.sid c.args.byte c.turns.lists.items.items c.turns.found
     (rw none at c.turns.invariant.under_way)
 
 pub state-requires : goal.state-requires
 state-requires c =
-    (IsUnderWay-top c.args.nfa.now c.args.sid c.args.byte c.turns.lists.items c.pop.new.self.items c.turns.stack.items
-    c.turns.found c.in-Some.thread c.in-Some.ensures.items c.turns.invariant.under_way).0
+    (IsUnderWay-top c.args.nfa.now c.args.sid c.args.byte c.turns.lists.items.items c.pop.new.self.items
+    c.turns.stack.items c.turns.found c.in-Some.thread c.in-Some.ensures.items c.turns.invariant.under_way).0
 
 pub go_on-requires-clause-state : goal.go_on-requires-clause-state
 go_on-requires-clause-state c =
-    (IsUnderWay-top c.args.nfa.now c.args.sid c.args.byte c.turns.lists.items c.pop.new.self.items c.turns.stack.items
-    c.turns.found c.in-Some.thread c.in-Some.ensures.items c.turns.invariant.under_way).0
+    (IsUnderWay-top c.args.nfa.now c.args.sid c.args.byte c.turns.lists.items.items c.pop.new.self.items
+    c.turns.stack.items c.turns.found c.in-Some.thread c.in-Some.ensures.items c.turns.invariant.under_way).0
 
 pub go_on-requires-clause-list : goal.go_on-requires-clause-list
 go_on-requires-clause-list c =
-    let k = (IsUnderWay-top c.args.nfa.now c.args.sid c.args.byte c.turns.lists.items c.pop.new.self.items
-    c.turns.stack.items c.turns.found c.in-Some.thread c.in-Some.ensures.items c.turns.invariant.under_way).1 in
-    omega (arith, k, c.turns.lists.ok.0)
+    (IsUnderWay-top c.args.nfa.now c.args.sid c.args.byte c.turns.lists.items.items c.pop.new.self.items
+    c.turns.stack.items c.turns.found c.in-Some.thread c.in-Some.ensures.items c.turns.invariant.under_way).1
 
 -- nothing is there
 none-of : (o : Option WayEnd) → is_some o ≡ false → o ≡ None
@@ -51,7 +50,7 @@ turns-preserved c =
     let at : node_at nfa t.sid ≡ node = node_at-get nfa t.sid node c.state.ensures.node in
     let goal_is : goal_of c.args.byte (node_at nfa t.sid) ≡ c.goal.result =
     ap (λ (n : Node). goal_of c.args.byte n) at ∙ sym c.goal.ensures.goal in
-    let lists = c.turns.lists.items in
+    let lists = c.turns.lists.items.items in
     let stack = c.turns.stack.items in
     let rest = c.pop.new.self.items in
     elim c.match-goal.branch [
@@ -59,6 +58,7 @@ turns-preserved c =
           let none : c.turns.found ≡ None = none-of c.turns.found (sym w.is_some.ensures ∙ w.if-is_some.false) in
           rw (w.lists-is, w.stack-is, w.found-is) (record {
             keeps = c.turns.invariant.keeps;
+            most = c.turns.invariant.most;
             under_way = IsUnderWay-found nfa c.args.sid c.args.byte lists rest stack t w.in-Some-goal.goal
                 c.in-Some.ensures.items
                 (subst (λ (f : Option WayEnd). IsUnderWay nfa c.args.sid c.args.byte lists stack f) none
@@ -67,9 +67,10 @@ turns-preserved c =
           })
       | in-None+else-not-go_on w ↦
           rw (w.lists-is, w.stack-is, w.found-is) (record {
-            keeps = Keeps-trans c.args.lists.now.items lists w.go_on.new.lists.items c.turns.invariant.keeps
+            keeps = Keeps-trans c.args.lists.now.items.items lists w.go_on.new.lists.items.items c.turns.invariant.keeps
                 w.go_on.ensures.keeps;
-            under_way = IsUnderWay-on nfa c.args.sid c.args.byte lists w.go_on.new.lists.items rest stack
+            most = w.go_on.ensures.most ∙ c.turns.invariant.most;
+            under_way = IsUnderWay-on nfa c.args.sid c.args.byte lists w.go_on.new.lists.items.items rest stack
                 w.go_on.new.stack.items c.turns.found t c.in-Some.ensures.items c.turns.invariant.under_way
                 (goal_is ∙ w.in-None.is)
                 (subst (LeadsBelow (length nfa.states)) (sym at) c.state.ensures.leads) w.go_on.ensures.keeps

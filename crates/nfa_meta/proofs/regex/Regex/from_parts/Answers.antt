@@ -17,5 +17,6 @@ invariant_of-result c =
       search rules,
       rw made records.0,
       search rules,
-      rw made c.in-Ok-new-2.ensures,
+      rw made c.in-Ok-new-2.ensures.own,
+      search rules,
     )

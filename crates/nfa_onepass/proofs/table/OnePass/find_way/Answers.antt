@@ -4,4 +4,5 @@ use Rattle.nfa_onepass.proofs.TableLemmas.{IsFor-lists}
 use Rattle.nfa_onepass.proofs.table.OnePass.find_way.Goals as goal
 
 pub returns-clause-own : goal.returns-clause-own
-returns-clause-own c = IsFor-lists c.args.nfa.now c.args.self.now _ refl c.only_way.ensures.keeps c.requires.own
+returns-clause-own c = IsFor-lists c.args.nfa.now c.args.self.now _ refl c.only_way.ensures.keeps
+    (record { rows = refl; lists = c.only_way.ensures.most; limit = refl }) c.requires.own

@@ -1,7 +1,7 @@
 -- The step was sure, and its list was written.
 use Rattle.nfa_paths.proofs.Common.{◌<◌, refl, subst, arith, ℕ, Option}
 use Rattle.nfa_onepass.specs.Ways.{IsSure}
-use Rattle.nfa_onepass.specs.Tables.{list_at}
+use Rattle.nfa_onepass.specs.Lists.{list_at}
 use Rattle.nfa_onepass.proofs.TableLemmas.{byte_of-low}
 use Rattle.nfa_onepass.proofs.table.OnePass.step_over.Goals as goal
 
@@ -9,7 +9,7 @@ pub returns-clause-takes : goal.returns-clause-takes
 returns-clause-takes c s here =
     let step = c.in_ok-cell.ensures.step s here in
     let low : c.args.byte < 256 = omega (arith, c.ranges.byte.fits) in
-    let slots = list_at c.cell.new.self.lists.items c.in_ok-cell.cell.list in
+    let slots = list_at c.cell.new.self.lists.items.items c.in_ok-cell.cell.list in
     record {
       to = step.goal;
       written = slots;

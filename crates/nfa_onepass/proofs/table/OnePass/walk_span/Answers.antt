@@ -1,7 +1,7 @@
 -- The walk begins with no slot set, and ends with the step to a Match.
 use Rattle.nfa_paths.proofs.Common.{◌∙◌, ℕ, ap, length, refl, sym, search_of, number_of}
 use Rattle.nfa_onepass.specs.Ways.{write_each}
-use Rattle.nfa_onepass.specs.Tables.{list_at}
+use Rattle.nfa_onepass.specs.Lists.{list_at}
 use Rattle.nfa_onepass.proofs.TableLemmas.{IsWalking-begin, IsWalking-end}
 use Rattle.nfa_onepass.proofs.table.OnePass.walk_span.Goals as goal
 
@@ -17,4 +17,4 @@ returns-clause-only c =
     IsWalking-end c.args.nfa.now (search_of c.args.input.now) c.walk.new.self c.cell.new.self c.in_ok-row.row
     (number_of c.in_ok-pattern.pattern) c.in_ok-cell.cell c.walk.new.slots c.write_list.new.slots w
     (c.in_ok-cell.ensures.step w.state w.here) c.in_ok-pattern.ensures (c.if-not-write_list.ensures refl ∙ ap (λ (n : ℕ). write_each
-    (list_at c.cell.new.self.lists.items c.in_ok-cell.cell.list) n c.walk.new.slots) c.end.ensures.value)
+    (list_at c.cell.new.self.lists.items.items c.in_ok-cell.cell.list) n c.walk.new.slots) c.end.ensures.value)
