@@ -1,5 +1,5 @@
-"""The one way in which the scripts run the programs that `rt ci` has built: with arguments, an input, and faults of a
-library that is loaded before a program's own (`faults.c`); and compare what they write."""
+"""The one way in which the scripts run programs, those that `rt ci` has built and that of `tests`: with arguments, an input,
+and faults of a library that is loaded before a program's own (`faults.c`); and compare what they write."""
 import functools
 import os
 import pathlib

@@ -8,11 +8,11 @@ mod pikevm;
 use nfa_engines::backtrack::BoundedBacktracker;
 use nfa_engines::pikevm::{self as pike, PikeVM};
 use regex_search_core::{Captures, Match, MatchKind};
-use sample_engines as made;
-use sample_engines::parts;
 use std::alloc::AllocError;
 use std::fmt::Debug;
 use std::process::Abort;
+use test_support::samples as made;
+use test_support::samples::parts;
 
 // A backtracker of the sample.
 fn engine_named(rt: &(impl Abort + AllocGlobal), name: &str) -> BoundedBacktracker {

@@ -4,6 +4,7 @@
 pub mod engines;
 pub mod machine;
 pub mod random;
+pub mod samples;
 pub mod searches;
 pub mod text;
 

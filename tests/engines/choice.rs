@@ -7,9 +7,9 @@ use nfa_choice::choose::{Choice, Engine};
 use nfa_engines::error::SearchError;
 use nfa_engines::{backtrack, pikevm};
 use regex_search_core::{Captures, Input, MatchKind, NonMaxUsize};
-use sample_engines::nfa_named;
 use std::test::Fail;
 use test_support::TestRuntime;
+use test_support::samples::nfa_named;
 use test_support::text::{match_text, slots_text, write_item};
 use thompson_nfa::NFA;
 

@@ -7,8 +7,8 @@ use nfa_choice::choose::Choice;
 use nfa_engines::backtrack::{self, BoundedBacktracker};
 use nfa_engines::pikevm::{self, PikeVM};
 use regex_search_core::{Input, MatchKind};
-use sample_engines::nfa_named;
 use test_support::TestRuntime;
+use test_support::samples::nfa_named;
 use test_support::searches::searches_of;
 use thompson_nfa::NFA;
 

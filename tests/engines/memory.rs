@@ -5,10 +5,10 @@ use super::shapes::{Shape, nfa_of};
 use nfa_engines::backtrack::{self, BoundedBacktracker};
 use nfa_engines::pikevm::PikeVM;
 use regex_search_core::{Anchored, Input, PatternID, PatternSet};
-use sample_engines::{backtracker, nfa_named, pikevm, with_capacity};
 use std::test::Fail;
 use test_support::TestRuntime;
 use test_support::engines::{Engines, fitting};
+use test_support::samples::{backtracker, nfa_named, pikevm, with_capacity};
 use test_support::text::{backtracked_list, backtracked_match, backtracked_slots};
 use thompson_nfa::NFA;
 

@@ -4,9 +4,9 @@ use super::expected::{Ask, engines_of, expect_answer_of, expect_is_match};
 use super::shapes::{Shape, nfa_of};
 use nfa_engines::pikevm::{Config, PikeVM};
 use regex_search_core::{Anchored, Input, MatchKind, PatternID, PatternSet};
-use sample_engines::NAMES;
 use std::test::Fail;
 use test_support::engines::{Engines, fitting};
+use test_support::samples::NAMES;
 
 // Anchored to the pattern of this number, which need not exist, or unanchored.
 fn mode(pattern: Option<usize>) -> Anchored {

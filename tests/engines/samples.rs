@@ -5,7 +5,7 @@ use nfa_samples::answers::{
     ALL, FOUND, FOUND_IN_SPAN, HALVES, OF_ONE_PATTERN, OF_SLOT_LENS, SLOTS,
 };
 use regex_search_core::{Anchored, Input, PatternID};
-use sample_engines::input_in;
+use test_support::samples::input_in;
 
 #[test]
 fn both_fill_the_slots_of_each_sample(rt: HostRuntime) {

@@ -1,8 +1,8 @@
 //! NFAs that no regular expression is compiled to.
 
-use sample_engines::MakeError;
 use std::alloc::Global;
 use test_support::machine::Machine;
+use test_support::samples::MakeError;
 use thompson_nfa::NFA;
 
 /// What an NFA looks like.

@@ -4,8 +4,8 @@
 use super::pair::Pair;
 use nfa_engines::{MatchKind, NFA};
 use nfa_hybrid::dfa::Config;
-use sample_engines::{NAMES, nfa_named};
 use test_support::TestRuntime;
+use test_support::samples::{NAMES, nfa_named};
 
 const ASCII: &[&[u8]] = &[b"", b"abba", b"abcab", b"foo 12"];
 

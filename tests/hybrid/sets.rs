@@ -4,8 +4,8 @@ use super::pair::Pair;
 use nfa_compiler::Compiler;
 use nfa_engines::{Input, MatchKind};
 use nfa_hybrid::dfa::Config;
-use sample_engines::{NAMES, nfa_named};
 use std::test::Fail;
+use test_support::samples::{NAMES, nfa_named};
 use test_support::searches::searches_of;
 
 const HAYSTACKS: &[&[u8]] = &[b"", b"abcab", b"foo 12", b"a\xE2\x98\x83b"];

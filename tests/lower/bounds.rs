@@ -2,10 +2,10 @@
 use super::fixtures::named;
 use Row::{Byte, Capture, Either, Match};
 use nfa_match_spans::records_match_spans;
-use sample_engines::MakeError;
 use std::alloc::Global;
 use std::test::Fail;
 use test_support::machine::Machine;
+use test_support::samples::MakeError;
 use thompson_nfa::NFA;
 
 // A sample, and whether it writes both slots of a pattern on each path to its match. `a_bare` and `a_pair` have no

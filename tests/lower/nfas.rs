@@ -1,11 +1,11 @@
 //! Tests of NFAs: how they are made and read.
 use super::fixtures::{id, pattern};
 use super::shown::expect_shown;
-use sample_engines::MakeError;
 use std::alloc::Global;
 use std::process::Abort;
 use std::test::Fail;
 use test_support::machine::Machine;
+use test_support::samples::MakeError;
 use thompson_nfa::{BuildError, Look, NFA};
 
 /// An NFA with a state of each kind. Its two patterns start at 1 and 2 and have no explicit groups. Searches start at 0

@@ -5,9 +5,9 @@ use nfa_choice::choose::Choice;
 use nfa_compiler::Compiler;
 use nfa_engines::{Input, Match, NonMaxUsize, PatternSet, backtrack, pikevm};
 use nfa_meta::Regex;
-use sample_engines::{NAMES, nfa_named};
 use std::test::Fail;
 use test_support::TestRuntime;
+use test_support::samples::{NAMES, nfa_named};
 use test_support::searches::searches_of;
 
 const HAYSTACKS: &[&[u8]] = &[

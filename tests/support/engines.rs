@@ -1,5 +1,6 @@
 //! Both engines over one NFA.
 
+use crate::samples::{MakeError, nfa_named};
 use crate::text::{
     backtracked_half, backtracked_list, backtracked_match, backtracked_slots, piked_half,
     piked_list, piked_match, piked_slots,
@@ -8,7 +9,6 @@ use nfa_engines::backtrack::{self, BoundedBacktracker};
 use nfa_engines::error::SearchError;
 use nfa_engines::pikevm::{self, PikeVM};
 use regex_search_core::{Input, NonMaxUsize, PatternID};
-use sample_engines::{MakeError, nfa_named};
 use std::alloc::{AllocError, Global};
 use thompson_nfa::NFA;
 

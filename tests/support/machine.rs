@@ -1,7 +1,7 @@
 //! NFAs other than the samples, written state by state.
 
+use crate::samples::MakeError;
 use regex_search_core::{GroupInfo, PatternID, StateID};
-use sample_engines::MakeError;
 use std::alloc::Global;
 use thompson_nfa::{Look, NFA, State, Transition};
 

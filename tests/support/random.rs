@@ -1,7 +1,7 @@
 //! Random NFAs from a seed. The sums in `tests/engines/random.rs` depend on what this generator makes.
 
 use crate::machine::Machine;
-use sample_engines::MakeError;
+use crate::samples::MakeError;
 use std::alloc::Global;
 use thompson_nfa::{Look, NFA};
 

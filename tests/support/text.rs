@@ -1,11 +1,11 @@
 //! Answers of both engines as text.
 
 use crate::engines::fitting;
+use crate::samples::parts;
 use nfa_engines::backtrack::{self, BoundedBacktracker};
 use nfa_engines::error::SearchError;
 use nfa_engines::pikevm::{self, PikeVM};
 use regex_search_core::{HalfMatch, Input, Match, NonMaxUsize, PatternID};
-use sample_engines::parts;
 use std::alloc::{AllocError, Global};
 
 /// The pattern and the span, as `0 1..4`, or `none`.

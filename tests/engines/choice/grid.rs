@@ -6,9 +6,9 @@ use super::super::expected::engines_of;
 use super::configured;
 use nfa_choice::choose::{Choice, Engine};
 use regex_search_core::{Input, MatchKind, NonMaxUsize, PatternID};
-use sample_engines::NAMES;
 use test_support::TestRuntime;
 use test_support::engines::Engines;
+use test_support::samples::NAMES;
 use test_support::searches::searches_of;
 
 const HAYSTACKS: &[&[u8]] = &[

@@ -4,9 +4,9 @@ use super::expect_match;
 use crate::tests::{engine_named, expect_shown};
 use nfa_engines::backtrack::{BoundedBacktracker, Builder, Cache, Config};
 use regex_search_core::Input;
-use sample_engines::nfa_named;
 use std::process::Abort;
 use std::test::Fail;
+use test_support::samples::nfa_named;
 
 fn expect_reads(rt: &impl Abort, engine: &BoundedBacktracker) {
     assert_eq!(rt; engine.pattern_len(), 2);

@@ -4,8 +4,8 @@ use super::expect_slots;
 use crate::tests::with_capacity;
 use nfa_engines::backtrack::{BoundedBacktracker, Builder, Config, min_visited_capacity};
 use regex_search_core::{Anchored, Input, PatternID};
-use sample_engines::nfa_named;
 use std::process::Abort;
+use test_support::samples::nfa_named;
 
 // Expects this answer in two slots, with a new cache.
 fn expect_anew(

@@ -4,9 +4,9 @@
 use super::{DATE_SLOTS, expect_captures};
 use crate::tests::{engine_named, threads, vm_named};
 use nfa_engines::{Captures, Input};
-use sample_engines::nfa_named;
 use std::process::Abort;
 use std::test::Fail;
+use test_support::samples::nfa_named;
 
 // Which slots captures have: none, those of each match, or those of each group.
 #[derive(Clone, Copy, Debug)]

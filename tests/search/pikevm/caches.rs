@@ -4,11 +4,11 @@ use crate::tests::{expect_text, threads, vm_named};
 use nfa_engines::pikevm::{Cache, PikeVM};
 use nfa_samples::answers::OF_SLOT_LENS;
 use regex_search_core::{Anchored, Input, PatternID};
-use sample_engines::MakeError;
 use std::alloc::Global;
 use std::process::Abort;
 use std::test::Fail;
 use test_support::machine::Machine;
+use test_support::samples::MakeError;
 use test_support::text::{piked_match, piked_slots};
 
 // Expects this answer with the cache, in `slot_len` slots.

@@ -2,8 +2,8 @@
 
 use crate::tests::{expect_matches, threads, vm_named};
 use list_callers::matches::{collected, first_alone, how_many};
-use sample_engines::parts;
 use std::test::Fail;
+use test_support::samples::parts;
 
 const HAYSTACK: &[u8] = b"foo1 foo12 foo123";
 

@@ -3,8 +3,8 @@
 use crate::tests::{engine_named, threads, vm_named};
 use list_callers::histories::{found_twice, tried_twice};
 use regex_search_core::Input;
-use sample_engines::parts;
 use std::test::Fail;
+use test_support::samples::parts;
 
 const TEXT: &[u8] = b"x foo12 foo1";
 

@@ -3,9 +3,9 @@
 use crate::tests::{expect_shown, expect_six_unset, expect_text, of_kind, threads, vm_named};
 use nfa_engines::pikevm::{Builder, Cache, Config, PikeVM};
 use regex_search_core::{Input, MatchKind};
-use sample_engines::nfa_named;
 use std::process::Abort;
 use std::test::Fail;
+use test_support::samples::nfa_named;
 use test_support::text::{match_text, piked_match};
 
 // Expects this match, with a new cache.

@@ -4,11 +4,11 @@ use crate::tests::{expect_text, of_kind, threads};
 use nfa_engines::pikevm::{Cache, PikeVM};
 use regex_search_core::MatchKind::{All, LeftmostFirst};
 use regex_search_core::{Input, MatchKind, PatternID, PatternSet};
-use sample_engines::input_in;
 use std::alloc::{AllocError, Global};
 use std::process::Abort;
 use std::test::Fail;
 use test_support::engines::fitting;
+use test_support::samples::input_in;
 
 // A name, a kind, a haystack, the capacity of a set, and the patterns that an empty set gains, without and with
 // `earliest`.

@@ -4,9 +4,9 @@ use crate::tests::{of_kind, threads, vm_named};
 use nfa_engines::empty::{skip_splits_fwd, skip_splits_rev};
 use nfa_engines::pikevm::{Cache, PikeVM};
 use regex_search_core::{Input, MatchKind};
-use sample_engines::input_in;
 use std::test::Fail;
 use test_support::engines::fitting;
+use test_support::samples::input_in;
 
 // The end of the match that the engine finds, as the value of the answer and as its offset.
 fn placed(vm: &PikeVM, cache: &mut Cache, input: &Input<'_>) -> Option<(usize, usize)> {

@@ -6,8 +6,8 @@ use nfa_engines::backtrack::{BoundedBacktracker, Cache, TryFindMatches};
 use nfa_engines::error::SearchError;
 use nfa_engines::iter::Searcher;
 use regex_search_core::{Input, Match};
-use sample_engines::parts;
 use std::alloc::Global;
+use test_support::samples::parts;
 
 /// The matches of `words_numbers` in `abc 1 foo 4567 0 quux`: each one's pattern, start and end.
 pub const WORDS_AND_NUMBERS: &[(usize, usize, usize)] = &[

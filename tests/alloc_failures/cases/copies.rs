@@ -6,8 +6,8 @@ use super::{Seen, Wrong, engines, expect};
 use nfa_engines::backtrack::{self, BoundedBacktracker};
 use nfa_engines::error::SearchError;
 use regex_search_core::Input;
-use sample_engines::parts;
 use std::alloc::Global;
+use test_support::samples::parts;
 
 /// The stretches of a backtracker.
 pub fn backtracked(alloc: Global, seen: &mut Seen) -> Result<(), Wrong> {

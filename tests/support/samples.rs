@@ -1,8 +1,4 @@
-//! NFAs and engines by the name of a sample, for tests.
-#![tactic(auto)]
-
-ghost use Rattle.std.specs.Prelude.{◌≡◌, IfOk, IfSome, None, Some};
-ghost use Rattle.regex_search_core.specs.Search.{search_of};
+//! NFAs and engines by the name of a sample.
 
 use nfa_engines::backtrack::{self, BoundedBacktracker};
 use nfa_engines::error::SearchError;
@@ -97,9 +93,7 @@ pub fn nfa_named(alloc: Global, name: &str) -> Result<NFA, MakeError> {
 }
 
 /// A backtracker of the sample, with the default capacity.
-pub fn backtracker(alloc: Global, name: &str) -> Result<BoundedBacktracker, MakeError>
-    ensures { IfOk result (λ engine. engine.visited_capacity ≡ None) }
-{
+pub fn backtracker(alloc: Global, name: &str) -> Result<BoundedBacktracker, MakeError> {
     Ok(BoundedBacktracker::new_from_nfa(nfa_named(alloc, name)?)?)
 }
 
@@ -108,25 +102,19 @@ pub fn with_capacity(
     alloc: Global,
     name: &str,
     bytes: usize,
-) -> Result<BoundedBacktracker, MakeError>
-    ensures { IfOk result (λ engine. engine.visited_capacity ≡ Some bytes) }
-{
+) -> Result<BoundedBacktracker, MakeError> {
     let mut builder = BoundedBacktracker::builder();
     builder.configure(backtrack::Config::new().visited_capacity(bytes));
     Ok(builder.build_from_nfa(nfa_named(alloc, name)?)?)
 }
 
 /// A PikeVM of the sample.
-pub fn pikevm(alloc: Global, name: &str) -> Result<PikeVM, MakeError>
-    ensures { IfOk result (λ vm. vm.match_kind ≡ None) }
-{
+pub fn pikevm(alloc: Global, name: &str) -> Result<PikeVM, MakeError> {
     Ok(PikeVM::new_from_nfa(nfa_named(alloc, name)?)?)
 }
 
 /// A PikeVM of the sample that searches by this kind.
-pub fn of_kind(alloc: Global, name: &str, kind: MatchKind) -> Result<PikeVM, MakeError>
-    ensures { IfOk result (λ vm. vm.match_kind ≡ Some kind) }
-{
+pub fn of_kind(alloc: Global, name: &str, kind: MatchKind) -> Result<PikeVM, MakeError> {
     let mut builder = PikeVM::builder();
     builder.configure(pikevm::Config::new().match_kind(kind));
     Ok(builder.build_from_nfa(nfa_named(alloc, name)?)?)
@@ -138,9 +126,7 @@ pub fn input_in<'h>(
     start: usize,
     end: usize,
     anchored: bool,
-) -> Option<Input<'h>>
-    ensures { IfSome result (λ input. (search_of input).haystack ≡ haystack.now) }
-{
+) -> Option<Input<'h>> {
     if start > end || end > haystack.len() {
         return None;
     }

@@ -7,9 +7,9 @@ use nfa_engines::error::SearchError;
 use nfa_engines::pikevm::{self, PikeVM};
 use nfa_hybrid::{Hybrid, dfa};
 use regex_search_core::{Captures, GroupInfo, MatchKind, PatternSet, Refused};
-use sample_engines as samples;
-use sample_engines::MakeError;
 use std::alloc::Global;
+use test_support::samples;
+use test_support::samples::MakeError;
 use thompson_nfa::NFA;
 
 /// The NFA of the sample.

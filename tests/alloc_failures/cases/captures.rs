@@ -1,8 +1,5 @@
 //! Iterations over captures that were refused memory: none is made, or a beginning of the list comes, the refusal once,
 //! and then nothing. The cache serves the next search.
-ghost use Rattle.regex_search_core.specs.Search.{search_of};
-ghost use Rattle.nfa_search_base.specs.WithCaptures.{filled_answer, row_span};
-ghost use Rattle.nfa_search_base.specs.IterStates.{AnswerIsInside};
 
 use super::{Seen, Wrong, engines, expect, is_right, searches};
 use nfa_engines::backtrack::{self, BoundedBacktracker, TryCapturesMatches};
@@ -10,8 +7,8 @@ use nfa_engines::error::SearchError;
 use nfa_engines::iter::Searcher;
 use nfa_engines::pikevm::{self, CapturesMatches, PikeVM};
 use regex_search_core::{Captures, Input, NonMaxUsize, PatternID};
-use sample_engines::parts;
 use std::alloc::Global;
+use test_support::samples::parts;
 
 /// Iterations of both engines over captures, and of a stored finder.
 pub fn lists(alloc: Global, seen: &mut Seen) -> Result<(), Wrong> {
@@ -173,9 +170,7 @@ fn stored_of(alloc: Global, seen: &mut Seen, vm: &PikeVM) -> Result<(), Wrong> {
 }
 
 /// Captures of the first byte of the span, if it has one.
-pub fn first_byte(input: &Input<'_>, captures: &mut Captures) -> Result<(), SearchError>
-    ensures { AnswerIsInside row_span (search_of input.now) (filled_answer captures.new result) }
-{
+pub fn first_byte(input: &Input<'_>, captures: &mut Captures) -> Result<(), SearchError> {
     let start = input.start();
     for (slot, offset) in captures
         .slots_mut()

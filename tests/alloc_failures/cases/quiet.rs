@@ -11,20 +11,9 @@ use nfa_engines::iter::Searcher;
 use nfa_engines::pikevm::{self, CapturesMatches, PikeVM};
 use regex_search_core::MatchKind::All;
 use regex_search_core::{Captures, Input, NonMaxUsize, PatternSet};
-use sample_engines::parts;
 use std::alloc::Global;
+use test_support::samples::parts;
 use thompson_nfa::BuildError;
-
-/// All stretches but that of the PikeVM's searches leftmost first.
-pub fn stretches(alloc: Global, seen: &mut Seen) -> Result<(), Wrong> {
-    warm_backtracker(alloc, seen)?;
-    warm_choice(alloc, seen)?;
-    piked_in_all(alloc, seen)?;
-    new_caches(alloc, seen)?;
-    iterators(alloc, seen)?;
-    finders_item(alloc, seen)?;
-    replacement(alloc, seen)
-}
 
 // What is searched: the first match and its slots are those of "ab".
 const TWICE: &[u8] = b"ab ab";
@@ -38,8 +27,8 @@ fn granted<T: Drop>(answer: Result<T, SearchError>) -> Result<T, Wrong> {
     }
 }
 
-// The first search makes room, and the others take what there is.
-fn warm_backtracker(alloc: Global, seen: &mut Seen) -> Result<(), Wrong> {
+/// The first search makes room, and the others take what there is.
+pub fn warm_backtracker(alloc: Global, seen: &mut Seen) -> Result<(), Wrong> {
     let engine = engines::backtracker(alloc, seen, "groups")?;
     let mut cache = engine.create_cache(alloc);
     expect_warm(alloc, seen, &engine, &mut cache)
@@ -106,7 +95,8 @@ fn count_tries(engine: &BoundedBacktracker, cache: &mut backtrack::Cache) -> usi
     count
 }
 
-fn warm_choice(alloc: Global, seen: &mut Seen) -> Result<(), Wrong> {
+/// The same of the engine that chooses.
+pub fn warm_choice(alloc: Global, seen: &mut Seen) -> Result<(), Wrong> {
     let mut choice = engines::choice(alloc, seen, "groups")?;
     expect_warm_choice(alloc, seen, &mut choice)
 }
@@ -140,8 +130,8 @@ fn expect_chosen(choice: &mut Choice, captures: &mut Captures) -> Result<(), Wro
     )
 }
 
-// Searches of the other kind, over a text that is longer than any other here, and sets of several patterns.
-fn piked_in_all(alloc: Global, seen: &mut Seen) -> Result<(), Wrong> {
+/// Searches of the other kind, over a text that is longer than any other here, and sets of several patterns.
+pub fn piked_in_all(alloc: Global, seen: &mut Seen) -> Result<(), Wrong> {
     let vm = engines::pikevm_of_kind(alloc, seen, "foo_bar", All)?;
     expect_all(alloc, seen, &vm)
 }
@@ -206,9 +196,9 @@ fn expect_set(vm: &PikeVM, cache: &mut pikevm::Cache, set: &mut PatternSet) -> R
     Ok(())
 }
 
-// A cache of a PikeVM has seven tables and two boxes; one of a backtracker has nothing before a search. A reset for the
-// same engine takes no memory.
-fn new_caches(alloc: Global, seen: &mut Seen) -> Result<(), Wrong> {
+/// A cache of a PikeVM has seven tables and two boxes; one of a backtracker has nothing before a search. A reset for the
+/// same engine takes no memory.
+pub fn new_caches(alloc: Global, seen: &mut Seen) -> Result<(), Wrong> {
     let vm = engines::pikevm(alloc, seen, "groups")?;
     expect_threads(alloc, seen, &vm)?;
     let engine = engines::backtracker(alloc, seen, "groups")?;
@@ -281,8 +271,8 @@ fn expect_first(
     }
 }
 
-// An iterator that is made has searched nothing, and takes no memory but that of captures that it makes.
-fn iterators(alloc: Global, seen: &mut Seen) -> Result<(), Wrong> {
+/// An iterator that is made has searched nothing, and takes no memory but that of captures that it makes.
+pub fn iterators(alloc: Global, seen: &mut Seen) -> Result<(), Wrong> {
     let vm = engines::pikevm(alloc, seen, "groups")?;
     make_piked(alloc, seen, &vm)?;
     let engine = engines::backtracker(alloc, seen, "groups")?;
@@ -446,8 +436,8 @@ fn expect_second(
     }
 }
 
-// An item of a finder is one copy too.
-fn finders_item(alloc: Global, seen: &mut Seen) -> Result<(), Wrong> {
+/// An item of a finder is one copy too.
+pub fn finders_item(alloc: Global, seen: &mut Seen) -> Result<(), Wrong> {
     let vm = engines::pikevm(alloc, seen, "groups")?;
     expect_finder(alloc, seen, &vm)
 }
@@ -475,8 +465,8 @@ fn make_chosen(alloc: Global, seen: &mut Seen, choice: &mut Choice) {
     seen.closes(alloc, "iterators of a choice");
 }
 
-// If the cache of the PikeVM fits, a replacement only copies the NFA, also after a search.
-fn replacement(alloc: Global, seen: &mut Seen) -> Result<(), Wrong> {
+/// If the cache of the PikeVM fits, a replacement only copies the NFA, also after a search.
+pub fn replacement(alloc: Global, seen: &mut Seen) -> Result<(), Wrong> {
     let mut choice = engines::choice(alloc, seen, "groups")?;
     expect_replaced(alloc, seen, &mut choice)?;
     expect_replaced_again(alloc, seen, &mut choice)

@@ -5,8 +5,8 @@ use super::{Seen, Wrong, engines, expect, is_right};
 use nfa_engines::error::SearchError;
 use nfa_engines::pikevm::{self, PikeVM};
 use regex_search_core::{Captures, Input, NonMaxUsize, PatternSet};
-use sample_engines::parts;
 use std::alloc::Global;
+use test_support::samples::parts;
 
 // What `groups` answers with a cache that fits.
 fn expect_piked(groups: &PikeVM, cache: &mut pikevm::Cache) -> Result<(), Wrong> {

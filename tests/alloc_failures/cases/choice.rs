@@ -6,8 +6,8 @@ use super::{Seen, Wrong, engines, expect};
 use nfa_choice::choose::Choice;
 use nfa_engines::error::SearchError;
 use regex_search_core::{Captures, Input, NonMaxUsize};
-use sample_engines::parts;
 use std::alloc::Global;
+use test_support::samples::parts;
 
 /// Each search answers, whatever is refused.
 pub fn searches(alloc: Global, seen: &mut Seen) -> Result<(), Wrong> {

@@ -8,8 +8,8 @@ use nfa_engines::error::SearchError;
 use nfa_engines::pikevm::{self, PikeVM};
 use nfa_samples::sample;
 use regex_search_core::{Captures, GroupInfo, Input, PatternID, Refused};
-use sample_engines::{MakeError, parts};
 use std::alloc::Global;
+use test_support::samples::{MakeError, parts};
 use thompson_nfa::{BuildError, NFA};
 
 // A name of each way to make a sample, and its states and slots.

@@ -5,8 +5,8 @@ use nfa_engines::backtrack::{BoundedBacktracker, Cache};
 use nfa_engines::error::SearchError;
 use nfa_samples::answers::GROUPS_ON_AB;
 use regex_search_core::{Captures, Input, Match, NonMaxUsize, PatternID, Span};
-use sample_engines::parts;
 use std::alloc::Global;
+use test_support::samples::parts;
 
 /// Whether `groups` on "ab" has filled its six slots.
 pub fn are_groups(pattern: Option<PatternID>, slots: &[Option<NonMaxUsize>]) -> bool {

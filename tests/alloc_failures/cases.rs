@@ -119,28 +119,43 @@ macro_rules! made {
 
 use made;
 
-/// Runs all cases, up to the first that goes wrong.
-pub fn run(alloc: Global, seen: &mut Seen) -> Result<(), Wrong> {
-    searches::slots(alloc, seen)?;
-    searches::matches(alloc, seen)?;
-    searches::captures(alloc, seen)?;
-    pikevms::resets(alloc, seen)?;
-    pikevms::searches(alloc, seen)?;
-    quiet::stretches(alloc, seen)?;
-    copies::backtracked(alloc, seen)?;
-    iteration::lists(alloc, seen)?;
-    captures::lists(alloc, seen)?;
-    makers::samples(alloc, seen)?;
-    makers::trivial_engines(alloc, seen)?;
-    makers::backtrackers(alloc, seen)?;
-    makers::pikevms(alloc, seen)?;
-    makers::captures(alloc, seen)?;
-    makers::sets(alloc, seen)?;
-    choice::searches(alloc, seen)?;
-    choice::lists(alloc, seen)?;
-    choice::replacements(alloc, seen)?;
-    hybrid::searches(alloc, seen)?;
-    hybrid::lists(alloc, seen)?;
-    hybrid::replacements(alloc, seen)?;
-    hybrid::warm(alloc, seen)
+// One case. Each makes what it searches with.
+type Case = fn(Global, &mut Seen) -> Result<(), Wrong>;
+
+/// Runs the case of this number.
+pub fn run(alloc: Global, seen: &mut Seen, number: usize) -> Result<(), Wrong> {
+    let cases: &[Case] = &[
+        searches::slots,
+        searches::matches,
+        searches::captures,
+        pikevms::resets,
+        pikevms::searches,
+        quiet::warm_backtracker,
+        quiet::warm_choice,
+        quiet::piked_in_all,
+        quiet::new_caches,
+        quiet::iterators,
+        quiet::finders_item,
+        quiet::replacement,
+        copies::backtracked,
+        iteration::lists,
+        captures::lists,
+        makers::samples,
+        makers::trivial_engines,
+        makers::backtrackers,
+        makers::pikevms,
+        makers::captures,
+        makers::sets,
+        choice::searches,
+        choice::lists,
+        choice::replacements,
+        hybrid::searches,
+        hybrid::lists,
+        hybrid::replacements,
+        hybrid::warm,
+    ];
+    match cases.get(number) {
+        Some(case) => case(alloc, seen),
+        None => Err(Wrong("no case")),
+    }
 }
