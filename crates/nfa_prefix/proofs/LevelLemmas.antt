@@ -271,9 +271,24 @@ module _ (here nexts : List ℕ) (level : List Bool) where
   -- a state that reads a byte
   pub filled-over : (node : Node) → reads_byte node ≡ true → HasTargets nexts None node → HasBytes level node
       → IsFilled here nexts level node
-  filled-over (ByteRange t) is h b = record { plain = refl; without = λ k d less. absurd (omega arith); over = h.over; reads = b }
-  filled-over (Sparse ts) is h b = record { plain = refl; without = λ k d less. absurd (omega arith); over = h.over; reads = b }
-  filled-over (Dense ts) is h b = record { plain = refl; without = λ k d less. absurd (omega arith); over = h.over; reads = b }
+  filled-over (ByteRange t) is h b = record {
+    plain = refl;
+    without = λ k d less. absurd (omega arith);
+    over = h.over;
+    reads = b;
+  }
+  filled-over (Sparse ts) is h b = record {
+    plain = refl;
+    without = λ k d less. absurd (omega arith);
+    over = h.over;
+    reads = b;
+  }
+  filled-over (Dense ts) is h b = record {
+    plain = refl;
+    without = λ k d less. absurd (omega arith);
+    over = h.over;
+    reads = b;
+  }
   filled-over _ is h b = absurd (cc is)
 
   -- and one that does not

@@ -16,8 +16,8 @@ use thompson_nfa::{NFA, State, Transition};
 /// The most states that are followed at one distance.
 const MAX_STATES: usize = 64;
 
-/// Follows the states up to those that read a byte: adds the bytes to the level, and to `next` the states that they lead
-/// to. Returns false if a match is reached, or more than 64 states.
+/// Follows the states up to those that read a byte: adds the bytes to the level, and the states that they lead to, to
+/// `next`. Returns false if a match is reached, or more than 64 states.
 pub fn fill(
     nfa: &NFA,
     here: &mut ReachedStates,

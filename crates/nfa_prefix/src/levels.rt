@@ -34,8 +34,8 @@ impl fmt::Debug for Levels {
 }
 
 impl Levels {
-    /// Returns the levels of the NFA: for up to eight positions, as long as no match ends, and as no more than 64 states
-    /// are followed. Returns `None` if they are fewer than two, or not rare in usual text. They do not cover
+    /// Returns the levels of the NFA: for up to eight positions, as long as no match ends and at most 64 states are
+    /// followed. Returns `None` if they are fewer than two, or not rare in usual text. They do not cover
     /// `Anchored::Pattern`, whose searches begin with another state. The only error is that an allocation failed.
     pub fn new(alloc: Global, nfa: &NFA) -> Result<Option<Levels>, AllocError>
         ensures { IfOk result (λ found. IfSome found (λ l. AdmitsMatches nfa.now l.ladder)) }

@@ -26,12 +26,12 @@ use thompson_nfa::NFA;
 pub struct Literals {
     /// The bytes that each match begins with.
     prefix: Vec<u8>,
-    /// The bytes that matches may have at their first positions, if the prefix has not two and these are rare in text.
+    /// The bytes that matches may have at their first positions, if no prefix is as long and they are rare in text.
     levels: Option<Levels>,
     /// The bytes that a match may begin with.
     first: FewBytes,
-    /// Bytes that each match has. They are sought only if there is no prefix, there are no levels, and a match may begin
-    /// with many bytes.
+    /// Bytes that each match has. They are sought only if there is no prefix, and no level, and a match may begin with
+    /// many bytes.
     required: Option<RequiredBytes>,
 }
 
@@ -62,12 +62,12 @@ impl Literals {
     /// Returns a position of the span before which no match starts, as far on as the literals say. Returns `None` if
     /// they say that nothing matches.
     ///
-    /// It is the first one at which the prefix of each match occurs. If the prefix has fewer than two bytes, and the bytes
-    /// that matches may have at their first positions are rare in usual text, it is one up to the first where these are.
-    /// Otherwise, if there is no prefix, it is the first one whose byte a match may begin with, or the end of the span. If
-    /// a match may begin with more than three bytes, it is the start of the span, or that of the line with the first bytes
-    /// that each match has. Requires that these are literals of the NFA, that neither the search nor the NFA is anchored,
-    /// and that a match may end anywhere.
+    /// It is the first one at which the prefix of each match occurs. If that has fewer than two bytes, and the bytes
+    /// that matches may have at their first positions are rare in usual text, it is one up to the first with these.
+    /// Otherwise, if there is no prefix, it is the first one whose byte a match may begin with, or the end of the span.
+    /// If a match may begin with more than three bytes, it is the start of the span, or that of the line with the first
+    /// bytes that each match has. Requires that these are literals of the NFA, that neither the search nor the NFA is
+    /// anchored, and that a match may end anywhere.
     ///
     /// ```
     /// // NFA of "foo[0-9]+", and its literals

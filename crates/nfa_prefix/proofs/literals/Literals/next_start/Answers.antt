@@ -1,5 +1,5 @@
--- No match starts before the bytes that each match begins with or may begin with, or before the line of a byte that each
--- match has.
+-- No match starts before the bytes that each match begins with, or may begin with, or before the line of a byte that
+-- each match has.
 use Rattle.nfa_paths.proofs.Common.{◌<◌, ◌≤◌, All, IfSome, arith, length, search_of, subst}
 use Rattle.nfa_prefix.specs.Levels.{AdmitsMatches}
 use Rattle.nfa_prefix.specs.RequiredBytes.{IsRequired}
@@ -45,8 +45,8 @@ returns-in-Some-required-clause-nothing c =
     let required : IsRequired nfa c.in-Some-required.required =
     subst (λ o. IfSome o (IsRequired nfa)) c.in-Some-required.is c.requires.of.has in
     none-then c.first_start-in-Some-required.result
-    (λ lacks. c.no_match_without_required_bytes.ensures nfa x c.in-Some-required.required c.args.from c.requires.unbound required
-    c.requires.first lacks)
+    (λ lacks. c.no_match_without_required_bytes.ensures nfa x c.in-Some-required.required c.args.from
+    c.requires.unbound required c.requires.first lacks)
     (rw c.haystack-haystack.ensures at (rw c.end-end.ensures.value at c.first_start-in-Some-required.ensures.nowhere))
 
 pub returns-in-Some-required-clause-first : goal.returns-in-Some-required-clause-first
@@ -56,8 +56,8 @@ returns-in-Some-required-clause-first c =
     let required : IsRequired nfa c.in-Some-required.required =
     subst (λ o. IfSome o (IsRequired nfa)) c.in-Some-required.is c.requires.of.has in
     some-then c.first_start-in-Some-required.result
-    (λ at lacks. c.starts_without_required_bytes_may_be_passed.ensures.moves nfa x c.in-Some-required.required c.args.from at
-    required c.requires.first lacks)
+    (λ at lacks. c.starts_without_required_bytes_may_be_passed.ensures.moves nfa x c.in-Some-required.required
+    c.args.from at required c.requires.first lacks)
     (rw c.haystack-haystack.ensures at (rw c.end-end.ensures.value at c.first_start-in-Some-required.ensures.passed))
 
 pub returns-in-Some-clause-nothing : goal.returns-in-Some-clause-nothing
