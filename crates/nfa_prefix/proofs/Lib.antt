@@ -1,6 +1,7 @@
 -- The lemmas on occurrences of bytes, on the bytes that paths read first, on bytes that each path reads, and on
 -- searches for them.
 pub mod FewLemmas
+pub mod LevelLemmas
 pub mod OccurrenceLemmas
 pub mod PrefixLemmas
 pub mod PositionLemmas

@@ -1,4 +1,5 @@
 pub mod FewBytes
+pub mod Levels
 pub mod Literals
 pub mod Prefixes
 pub mod PrefixLaws

@@ -2,13 +2,15 @@
 use Rattle.std.specs.Prelude.{IfSome}
 use Rattle.nfa_paths.specs.Common.{Automaton}
 use Rattle.nfa_prefix.specs.FewBytes.{BeginsAmong}
+use Rattle.nfa_prefix.specs.Levels.{AdmitsMatches}
 use Rattle.nfa_prefix.specs.Prefixes.{BeginsWith}
 use Rattle.nfa_prefix.specs.RequiredBytes.{IsRequired}
 use Rattle.nfa_prefix.specs.declared.literals.Literals.{Literals}
 
--- the literals are those of the NFA: each of its matches begins with the prefix, and with one of the first bytes, and
--- has the required bytes if there are any
+-- the literals are those of the NFA: each of its matches begins with the prefix, with bytes of the levels if there are
+-- any, and with one of the first bytes, and has the required bytes if there are any
 pub record AreLiteralsOf (nfa : Automaton) (literals : Literals) : Type 0 where
   pub begins : BeginsWith nfa literals.prefix.items
+  pub levels : IfSome literals.levels (λ l. AdmitsMatches nfa l.ladder)
   pub among : BeginsAmong nfa literals.first
   pub has : IfSome literals.required (IsRequired nfa)

@@ -14,6 +14,8 @@
 pub mod few_bytes;
 pub mod find;
 pub mod laws;
+mod level;
+mod levels;
 pub mod literals;
 mod only_move;
 pub mod prefix;

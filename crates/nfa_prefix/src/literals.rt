@@ -3,6 +3,7 @@ ghost use Rattle.std.specs.Prelude.{◌+◌, ◌≤◌, IfNone, IfOk, IfSome};
 ghost use Rattle.regex_search_core.specs.Search.{search_of};
 ghost use Rattle.nfa_engines.specs.Laws.{MatchesNothing};
 ghost use Rattle.nfa_engines.specs.StartLaws.{IsFirstStart, IsUnbound};
+ghost use Rattle.nfa_prefix.specs.Levels.{AdmitsMatches};
 ghost use Rattle.nfa_prefix.specs.Literals.{AreLiteralsOf};
 ghost use Rattle.nfa_prefix.specs.RequiredBytes.{IsRequired};
 
@@ -12,6 +13,7 @@ use crate::laws::{
     no_match_without_prefix, no_match_without_required_bytes, starts_without_prefix_may_be_passed,
     starts_without_required_bytes_may_be_passed,
 };
+use crate::levels::{Levels, MIN_LEVELS};
 use crate::prefix::literal_prefix;
 use crate::required_bytes::RequiredBytes;
 use nfa_engines::laws::bytes_may_be_skipped;
@@ -24,9 +26,12 @@ use thompson_nfa::NFA;
 pub struct Literals {
     /// The bytes that each match begins with.
     prefix: Vec<u8>,
+    /// The bytes that matches may have at their first positions, if no prefix is as long and they are rare in text.
+    levels: Option<Levels>,
     /// The bytes that a match may begin with.
     first: FewBytes,
-    /// Bytes that each match has. They are sought only if there is no prefix and a match may begin with many bytes.
+    /// Bytes that each match has. They are sought only if there is no prefix, and no level, and a match may begin with
+    /// many bytes.
     required: Option<RequiredBytes>,
 }
 
@@ -42,10 +47,13 @@ impl Literals {
         ensures { IfOk result (AreLiteralsOf nfa.now) }
     {
         let prefix = literal_prefix(alloc, nfa)?;
+        let levels = levels_of(alloc, nfa, &prefix)?;
         let first = FewBytes::new(nfa);
-        let required = required_of(alloc, nfa, &prefix, &first)?;
+        let is_known = !prefix.is_empty() || levels.is_some() || !first.are_many();
+        let required = required_of(alloc, nfa, is_known)?;
         Ok(Literals {
             prefix,
+            levels,
             first,
             required,
         })
@@ -54,10 +62,12 @@ impl Literals {
     /// Returns a position of the span before which no match starts, as far on as the literals say. Returns `None` if
     /// they say that nothing matches.
     ///
-    /// It is the first one at which the prefix of each match occurs. If there is no prefix, it is the first one whose
-    /// byte a match may begin with, or the end of the span. If a match may begin with more than three bytes, it is the
-    /// start of the span, or that of the line with the first bytes that each match has. Requires that these are literals
-    /// of the NFA, that neither the search nor the NFA is anchored, and that a match may end anywhere.
+    /// It is the first one at which the prefix of each match occurs. If that has fewer than two bytes, and the bytes
+    /// that matches may have at their first positions are rare in usual text, it is one up to the first with these.
+    /// Otherwise, if there is no prefix, it is the first one whose byte a match may begin with, or the end of the span.
+    /// If a match may begin with more than three bytes, it is the start of the span, or that of the line with the first
+    /// bytes that each match has. Requires that these are literals of the NFA, that neither the search nor the NFA is
+    /// anchored, and that a match may end anywhere.
     ///
     /// ```
     /// // NFA of "foo[0-9]+", and its literals
@@ -90,14 +100,28 @@ impl Literals {
         no_match_without_prefix();
         starts_without_required_bytes_may_be_passed();
         no_match_without_required_bytes();
-        let haystack = input.haystack();
+        let (haystack, end) = (input.haystack(), input.end());
+        if let Some(levels) = &self.levels {
+            return levels.first_start(haystack, from, end);
+        }
         if !self.prefix.is_empty() {
-            return find_prefix(haystack, from, input.end(), &self.prefix);
+            return find_prefix(haystack, from, end, &self.prefix);
         }
         match &self.required {
-            Some(required) => required.first_start(haystack, from, input.end()),
-            None => Some(self.first.next(haystack, from, input.end())),
+            Some(required) => required.first_start(haystack, from, end),
+            None => Some(self.first.next(haystack, from, end)),
         }
+    }
+}
+
+/// Returns the levels of the NFA, unless its prefix has two bytes.
+fn levels_of(alloc: Global, nfa: &NFA, prefix: &[u8]) -> Result<Option<Levels>, AllocError>
+    ensures { IfOk result (λ found. IfSome found (λ l. AdmitsMatches nfa.now l.ladder)) }
+{
+    if prefix.len() < MIN_LEVELS {
+        Levels::new(alloc, nfa)
+    } else {
+        Ok(None)
     }
 }
 
@@ -105,14 +129,13 @@ impl Literals {
 fn required_of(
     alloc: Global,
     nfa: &NFA,
-    prefix: &[u8],
-    first: &FewBytes,
+    is_known: bool,
 ) -> Result<Option<RequiredBytes>, AllocError>
     ensures { IfOk result (λ found. IfSome found (IsRequired nfa.now)) }
 {
-    if prefix.is_empty() && first.are_many() {
-        RequiredBytes::new(alloc, nfa)
-    } else {
+    if is_known {
         Ok(None)
+    } else {
+        RequiredBytes::new(alloc, nfa)
     }
 }

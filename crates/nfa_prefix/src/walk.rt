@@ -105,7 +105,7 @@ fn pass(
 }
 
 /// Whether the state is a match.
-fn is_match(state: &State) -> bool
+pub fn is_match(state: &State) -> bool
     ensures { result ≡ is_some (pattern_of (node_of state.now)) }
 {
     match state {

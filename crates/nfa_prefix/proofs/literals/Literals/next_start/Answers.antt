@@ -1,7 +1,11 @@
--- No match starts before the bytes that each match begins with, or before the line of a byte that each match has.
+-- No match starts before the bytes that each match begins with, or may begin with, or before the line of a byte that
+-- each match has.
 use Rattle.nfa_paths.proofs.Common.{◌<◌, ◌≤◌, All, IfSome, arith, length, search_of, subst}
+use Rattle.nfa_prefix.specs.Levels.{AdmitsMatches}
 use Rattle.nfa_prefix.specs.RequiredBytes.{IsRequired}
+use Rattle.nfa_prefix.specs.declared.levels.Levels.{Levels}
 use Rattle.nfa_prefix.proofs.FewLemmas.{none-then, others-passed, some-then}
+use Rattle.nfa_prefix.proofs.LevelLemmas.{first-to-admitted, nothing-admitted}
 use Rattle.nfa_prefix.proofs.literals.Literals.next_start.Goals as goal
 
 pub returns-in-None-clause-first : goal.returns-in-None-clause-first
@@ -11,7 +15,7 @@ returns-in-None-clause-first c =
     let small : All (λ b. b < 256) x.haystack = rw c.haystack-haystack.ensures at c.next.ensures.bytes in
     others-passed c.args.nfa.now x c.args.self.now.first c.args.from c.next.result
     c.bytes_may_be_skipped.ensures.nothing c.requires.of.among fits small c.requires.first c.next.ensures.onward
-    (rw c.end-in-None.ensures.value at c.next.ensures.within)
+    (rw c.end-end.ensures.value at c.next.ensures.within)
     (rw c.haystack-haystack.ensures at c.next.ensures.lacks)
 
 pub returns-then-not-is_empty-clause-nothing : goal.returns-then-not-is_empty-clause-nothing
@@ -21,7 +25,7 @@ returns-then-not-is_empty-clause-nothing c =
     none-then c.find_prefix.result
     (λ none. c.no_match_without_prefix.ensures nfa x c.args.self.now.prefix.items c.args.from c.requires.unbound
     c.requires.of.begins c.requires.first none)
-    (rw c.haystack-haystack.ensures at (rw c.end.ensures.value at (rw c.deref.ensures.value at
+    (rw c.haystack-haystack.ensures at (rw c.end-end.ensures.value at (rw c.deref.ensures.value at
     c.find_prefix.ensures.nowhere)))
 
 pub returns-then-not-is_empty-clause-first : goal.returns-then-not-is_empty-clause-first
@@ -31,27 +35,52 @@ returns-then-not-is_empty-clause-first c =
     some-then c.find_prefix.result
     (λ at here. c.starts_without_prefix_may_be_passed.ensures.first nfa x c.args.self.now.prefix.items c.args.from at
     c.requires.of.begins c.requires.first here)
-    (rw c.haystack-haystack.ensures at (rw c.end.ensures.value at (rw c.deref.ensures.value at
+    (rw c.haystack-haystack.ensures at (rw c.end-end.ensures.value at (rw c.deref.ensures.value at
     c.find_prefix.ensures.first)))
+
+pub returns-in-Some-required-clause-nothing : goal.returns-in-Some-required-clause-nothing
+returns-in-Some-required-clause-nothing c =
+    let nfa = c.args.nfa.now in
+    let x = search_of c.args.input.now in
+    let required : IsRequired nfa c.in-Some-required.required =
+    subst (λ o. IfSome o (IsRequired nfa)) c.in-Some-required.is c.requires.of.has in
+    none-then c.first_start-in-Some-required.result
+    (λ lacks. c.no_match_without_required_bytes.ensures nfa x c.in-Some-required.required c.args.from
+    c.requires.unbound required c.requires.first lacks)
+    (rw c.haystack-haystack.ensures at (rw c.end-end.ensures.value at c.first_start-in-Some-required.ensures.nowhere))
+
+pub returns-in-Some-required-clause-first : goal.returns-in-Some-required-clause-first
+returns-in-Some-required-clause-first c =
+    let nfa = c.args.nfa.now in
+    let x = search_of c.args.input.now in
+    let required : IsRequired nfa c.in-Some-required.required =
+    subst (λ o. IfSome o (IsRequired nfa)) c.in-Some-required.is c.requires.of.has in
+    some-then c.first_start-in-Some-required.result
+    (λ at lacks. c.starts_without_required_bytes_may_be_passed.ensures.moves nfa x c.in-Some-required.required
+    c.args.from at required c.requires.first lacks)
+    (rw c.haystack-haystack.ensures at (rw c.end-end.ensures.value at c.first_start-in-Some-required.ensures.passed))
 
 pub returns-in-Some-clause-nothing : goal.returns-in-Some-clause-nothing
 returns-in-Some-clause-nothing c =
     let nfa = c.args.nfa.now in
     let x = search_of c.args.input.now in
-    let required : IsRequired nfa c.in-Some.required =
-    subst (λ o. IfSome o (IsRequired nfa)) c.in-Some.is c.requires.of.has in
+    let fits : c.args.input.now.span.end ≤ length c.args.input.now.haystack.now = omega arith in
+    let small : All (λ b. b < 256) x.haystack = rw c.haystack-haystack.ensures at c.first_start.ensures.bytes in
+    let admits : AdmitsMatches nfa c.in-Some.levels.ladder =
+    subst (λ o. IfSome o (λ (l : Levels). AdmitsMatches nfa l.ladder)) c.in-Some.is c.requires.of.levels in
     none-then c.first_start.result
-    (λ lacks. c.no_match_without_required_bytes.ensures nfa x c.in-Some.required c.args.from c.requires.unbound required
-    c.requires.first lacks)
-    (rw c.haystack-haystack.ensures at (rw c.end-in-Some.ensures.value at c.first_start.ensures.nowhere))
+    (λ none. nothing-admitted nfa x c.in-Some.levels.ladder admits fits small c.requires.unbound c.args.from
+    c.requires.first none)
+    (rw c.haystack-haystack.ensures at (rw c.end-end.ensures.value at c.first_start.ensures.nowhere))
 
 pub returns-in-Some-clause-first : goal.returns-in-Some-clause-first
 returns-in-Some-clause-first c =
     let nfa = c.args.nfa.now in
     let x = search_of c.args.input.now in
-    let required : IsRequired nfa c.in-Some.required =
-    subst (λ o. IfSome o (IsRequired nfa)) c.in-Some.is c.requires.of.has in
+    let fits : c.args.input.now.span.end ≤ length c.args.input.now.haystack.now = omega arith in
+    let small : All (λ b. b < 256) x.haystack = rw c.haystack-haystack.ensures at c.first_start.ensures.bytes in
+    let admits : AdmitsMatches nfa c.in-Some.levels.ladder =
+    subst (λ o. IfSome o (λ (l : Levels). AdmitsMatches nfa l.ladder)) c.in-Some.is c.requires.of.levels in
     some-then c.first_start.result
-    (λ at lacks. c.starts_without_required_bytes_may_be_passed.ensures.moves nfa x c.in-Some.required c.args.from at
-    required c.requires.first lacks)
-    (rw c.haystack-haystack.ensures at (rw c.end-in-Some.ensures.value at c.first_start.ensures.passed))
+    (λ at none. first-to-admitted nfa x c.in-Some.levels.ladder admits fits small c.args.from at c.requires.first none)
+    (rw c.haystack-haystack.ensures at (rw c.end-end.ensures.value at c.first_start.ensures.passed))

@@ -1,0 +1,89 @@
+//! The bytes that matches have at their first positions, and a search for where they may start.
+ghost use Rattle.std.specs.Prelude.{◌≤◌, All, IfNone, IfOk, IfSome, length, ℕ, ◌<◌, List};
+ghost use Rattle.regex_literal.specs.Ladders.{Admits};
+ghost use Rattle.regex_literal.specs.Levels.{FitsLevels};
+ghost use Rattle.nfa_prefix.specs.Levels.{AdmitsMatches, AdmitsNoneBefore, AdmitsNoneFrom};
+
+use crate::level::fill;
+use crate::reached::ReachedStates;
+use regex_literal::Ladder;
+use std::alloc::{AllocError, Global};
+use std::fmt;
+use thompson_nfa::NFA;
+
+/// The most positions that are looked at.
+const MAX_LEVELS: usize = 8;
+
+/// The least of them that are worth a search.
+pub const MIN_LEVELS: usize = 2;
+
+/// The most positions of a million bytes of usual text at which the bytes may be.
+const MAX_PER_MILLION: u64 = 10_000;
+
+/// For each of the first positions of matches, the bytes that they may have there.
+#[derive(Drop)]
+pub struct Levels {
+    ladder: Ladder,
+}
+
+// Leaves the tables out, which would hide everything printed next to them.
+impl fmt::Debug for Levels {
+    fn fmt<W: fmt::Write>(&self, f: &mut fmt::Formatter<W>) -> fmt::Result {
+        f.debug_struct("Levels").finish_non_exhaustive()
+    }
+}
+
+impl Levels {
+    /// Returns the levels of the NFA: for up to eight positions, as long as no match ends and at most 64 states are
+    /// followed. Returns `None` if they are fewer than two, or not rare in usual text. They do not cover
+    /// `Anchored::Pattern`, whose searches begin with another state. The only error is that an allocation failed.
+    pub fn new(alloc: Global, nfa: &NFA) -> Result<Option<Levels>, AllocError>
+        ensures { IfOk result (λ found. IfSome found (λ l. AdmitsMatches nfa.now l.ladder)) }
+    {
+        let mut levels = [[false; 256]; MAX_LEVELS];
+        let mut here = ReachedStates::new(alloc, nfa.states().len())?;
+        here.add(nfa.start_anchored())?;
+        for count in 0..MAX_LEVELS {
+            let mut next = ReachedStates::new(alloc, nfa.states().len())?;
+            let mut level = [false; 256];
+            let is_full = fill(nfa, &mut here, &mut next, &mut level)?;
+            if !is_full {
+                return Ok(if_rare(&levels[..count]));
+            }
+            levels[count] = level;
+            here = next;
+        }
+        Ok(if_rare(&levels[..MAX_LEVELS]))
+    }
+
+    /// Returns the first position from `from` on at which a match may start, as far as the levels say, if the span ends
+    /// at `end`. Returns `None` if no match may start from there on.
+    ///
+    /// Requires that `end` is not past the end of the haystack.
+    pub fn first_start(&self, haystack: &[u8], from: usize, end: usize) -> Option<usize>
+        requires { end ≤ length haystack.now }
+        ensures nowhere { IfNone result (AdmitsNoneFrom self.now.ladder haystack.now from end) }
+        ensures passed { IfSome result (AdmitsNoneBefore self.now.ladder haystack.now from end) }
+        ensures within { IfSome result (λ at. at ≤ end) }
+        ensures bytes { All (λ b. b < 256) haystack.now }
+    {
+        if from > end {
+            return None;
+        }
+        self.ladder.find(&haystack[..end], from)
+    }
+}
+
+/// Returns these levels, if they are at least two, and rare in usual text.
+fn if_rare(levels: &[[bool; 256]]) -> Option<Levels>
+    ensures { IfSome result (λ l. (hay : List ℕ) (k : ℕ) → FitsLevels hay levels.now k → Admits l.ladder hay k) }
+{
+    if levels.len() < MIN_LEVELS {
+        return None;
+    }
+    let ladder = Ladder::new(levels, &[false; 256])?;
+    if ladder.candidates_per_million() > MAX_PER_MILLION {
+        return None;
+    }
+    Some(Levels { ladder })
+}
