@@ -182,8 +182,12 @@ fn more_states_than_rows_have_room(rt: HostRuntime) -> Result<(), Fail> {
 #[test]
 fn steps_stay_within_their_limit(rt: HostRuntime) -> Result<(), Fail> {
     for (limit, walks) in [(0, false), (2_000, false), (6_000, false), (100_000, true)] {
-        let config = Regex::config().onepass_size_limit(limit).hybrid_cache_capacity(1 << 20);
-        let mut regex = Regex::builder().configure(config).build(rt.alloc(), "(a+)(b+)(c+)")?;
+        let config = Regex::config()
+            .onepass_size_limit(limit)
+            .hybrid_cache_capacity(1 << 20);
+        let mut regex = Regex::builder()
+            .configure(config)
+            .build(rt.alloc(), "(a+)(b+)(c+)")?;
         let input = Input::new(b"abc");
         assert!(rt; regex.find(input).is_some());
         let before = regex.memory_usage();
@@ -199,7 +203,9 @@ fn steps_stay_within_their_limit(rt: HostRuntime) -> Result<(), Fail> {
 #[test]
 fn steps_can_be_left_out(rt: HostRuntime) -> Result<(), Fail> {
     let config = Regex::config().onepass(false);
-    let mut regex = Regex::builder().configure(config).build(rt.alloc(), "([a-z]+)=([0-9]+)")?;
+    let mut regex = Regex::builder()
+        .configure(config)
+        .build(rt.alloc(), "([a-z]+)=([0-9]+)")?;
     let mut slots = [None; 6];
     regex.search_slots(&Input::new(b"ab=12"), &mut slots);
     assert_eq!(rt; slots, [0, 5, 0, 2, 3, 5].map(NonMaxUsize::new));
