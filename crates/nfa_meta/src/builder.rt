@@ -7,6 +7,7 @@ ghost use Rattle.nfa_meta.specs.Built.{default_settings, regex_of};
 ghost use Rattle.nfa_meta.specs.RegexState.{row_capacity};
 
 mod flags;
+mod names;
 
 use crate::error::BuildError;
 use crate::regex::Regex;

@@ -19,6 +19,7 @@ ghost use Rattle.nfa_meta.specs.WindowRuns.{RunsAfterDfa, RunsByWindow};
 mod at;
 mod captures;
 mod captures_iter;
+mod counts;
 mod fill;
 mod find_iter;
 mod groups;
