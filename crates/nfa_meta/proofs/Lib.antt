@@ -7,6 +7,7 @@ pub mod GroupLemmas
 pub mod HalvesLemmas
 pub mod MatchesLemmas
 pub mod MatchSlotLemmas
+pub mod NamesLemmas
 pub mod PrefixLemmas
 pub mod QuickLemmas
 pub mod RegexLemmas

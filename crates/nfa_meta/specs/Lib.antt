@@ -6,6 +6,7 @@ pub mod GroupNames
 pub mod Halves
 pub mod Matches
 pub mod MatchSlots
+pub mod Offsets
 pub mod RegexSets
 pub mod RegexState
 pub mod Replaced

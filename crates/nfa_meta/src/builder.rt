@@ -6,6 +6,8 @@ ghost use Rattle.nfa_meta.specs.Built.{HasNotSearched, IsBuiltFrom, IsWhyNotBuil
 ghost use Rattle.nfa_meta.specs.Built.{default_settings, regex_of};
 ghost use Rattle.nfa_meta.specs.RegexState.{row_capacity};
 
+mod flags;
+mod names;
 mod one_pass;
 
 use crate::error::BuildError;

@@ -19,6 +19,7 @@ pub mod set;
 pub use builder::{Builder, Config};
 pub use error::BuildError;
 pub use nfa_choice::Engine;
-pub use nfa_compiler::{CompileError, Syntax};
+pub use nfa_compiler::{CompileError, Flags, Syntax};
 pub use regex::{CapturesMatches, FindMatches, HalfMatches, Regex};
+pub use regex_syntax::escape;
 pub use set::{RegexSet, SetMatches};

@@ -16,8 +16,10 @@ ghost use Rattle.nfa_meta.specs.Built.{default_settings, regex_of};
 ghost use Rattle.nfa_meta.specs.RegexState.{HasRoom, KeepsRegex, bytes_of};
 ghost use Rattle.nfa_meta.specs.WindowRuns.{RunsAfterDfa, RunsByWindow};
 
+mod at;
 mod captures;
 mod captures_iter;
+mod counts;
 mod fill;
 mod find_iter;
 mod groups;
