@@ -85,7 +85,8 @@ impl Regex {
     }
 
     /// Returns the least byte offset at which a match ends that starts at or after this one, as
-    /// [`Regex::shortest_match`] does. Assertions see the bytes before it. Past the end of the haystack nothing matches.
+    /// [`Regex::shortest_match`] does. Assertions see the bytes before it. Past the end of the haystack nothing
+    /// matches.
     ///
     /// ```
     /// // regex of r"\ba+"
