@@ -46,7 +46,7 @@ fn expect_same(
 
     let mut found = regex.create_captures(rt.alloc())?;
     let mut wanted = choice.create_captures(rt.alloc())?;
-    regex.search(input, &mut found);
+    regex.search_captures(input, &mut found);
     choice.search(input, &mut wanted);
     assert_eq!(rt; found.pattern(), wanted.pattern(), "{input:?}");
     assert_eq!(rt; found.slots(), wanted.slots(), "{input:?}");

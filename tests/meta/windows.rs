@@ -81,7 +81,7 @@ fn expect_group(
     span: (usize, usize),
 ) {
     let mut captures = regex.create_captures(rt.alloc()).expect(rt, "memory");
-    regex.search(&Input::new(text), &mut captures);
+    regex.search_captures(&Input::new(text), &mut captures);
     let found = captures.get_group(group).map(|s| (s.start, s.end));
     assert_eq!(rt; found, Some(span));
 }

@@ -225,7 +225,7 @@ pub fn captures_by_regex(regex: &mut Regex, input: &Input<'_>, captures: &mut Ca
     ensures inside { All (IsSlotInside (search_of input.now)) captures.new.slots }
     ensures spans { SpansInside (search_of input.now) captures.new }
 {
-    regex.search(input, captures);
+    regex.search_captures(input, captures);
 }
 
 /// Returns all matches that a regex finds. What they are is a clause each.

@@ -31,6 +31,7 @@ mod prefix;
 mod quick;
 mod replace;
 mod rewrite;
+mod search;
 mod split;
 mod start;
 mod window;

@@ -44,11 +44,11 @@ impl Regex {
     /// ```
     /// // regex of "foo(?<n>[0-9]+)"
     /// let mut captures = regex.create_captures(alloc)?;
-    /// regex.search(&Input::new(b"foo12345"), &mut captures);
+    /// regex.search_captures(&Input::new(b"foo12345"), &mut captures);
     /// let digits = captures.get_group_by_name("n");
     /// assert_eq!(rt; digits, Some(Span { start: 3, end: 8 }));
     /// ```
-    pub fn search(&mut self, input: &Input<'_>, captures: &mut Captures)
+    pub fn search_captures(&mut self, input: &Input<'_>, captures: &mut Captures)
         ensures answer { IsAnswer self.old.choice.nfa (kind_in self.old.choice) (search_of input.now).earliest
             (search_of input.now) captures.new.pattern captures.new.slots }
         ensures runs { RunsByWindow (search_of input.now) self.old self.new }
@@ -68,7 +68,7 @@ impl Regex {
         }
     }
 
-    /// Searches as [`Regex::search`] does, but takes the input by value.
+    /// Searches as [`Regex::search_captures`] does, but takes the input by value.
     ///
     /// ```
     /// // regex of "foo(?<n>[0-9]+)"
@@ -85,6 +85,6 @@ impl Regex {
         ensures holds { HoldsNoMore 0 self.old.choice.back self.new.choice.back }
         ensures keeps { KeepsRegex self.old self.new }
     {
-        self.search(&input, captures);
+        self.search_captures(&input, captures);
     }
 }

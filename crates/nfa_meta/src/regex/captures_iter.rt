@@ -192,7 +192,7 @@ impl FindWith for CapturesFinder {
 
     #[inline]
     fn answer(&mut self, regex: &mut Regex, input: &Input<'_>) -> Result<(), SearchError> {
-        regex.search(input, &mut self.captures);
+        regex.search_captures(input, &mut self.captures);
         Ok(())
     }
 

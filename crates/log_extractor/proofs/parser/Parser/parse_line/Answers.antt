@@ -10,10 +10,10 @@ use Rattle.log_extractor.proofs.parser.Parser.parse_line.Goals as goal
 pub invariant_of-self : goal.invariant_of-self
 invariant_of-self c =
     let inv = c.self.invariant in
-    let kept = c.search.ensures.keeps in (
-      regex-kept (c.self.inside.pattern.now ∷ []) c.self.inside.regex c.search.new.self inv.0 kept,
-      rw kept.engines.nfa (c.search.ensures.fills.groups ∙ inv.1),
-      rw kept.engines.nfa (c.search.ensures.fills.count ∙ inv.2),
+    let kept = c.search_captures.ensures.keeps in (
+      regex-kept (c.self.inside.pattern.now ∷ []) c.self.inside.regex c.search_captures.new.self inv.0 kept,
+      rw kept.engines.nfa (c.search_captures.ensures.fills.groups ∙ inv.1),
+      rw kept.engines.nfa (c.search_captures.ensures.fills.count ∙ inv.2),
       rw kept.engines.nfa inv.3,
     )
 
@@ -23,8 +23,8 @@ returns-clause-fields c = λ p is.
     let inv = c.self.invariant in
     let of = inv.0 in
     let nfa = c.self.inside.regex.choice.nfa in
-    let captures = c.search.new.captures in
-    let fills = c.search.ensures.fills in
+    let captures = c.search_captures.new.captures in
+    let fills = c.search_captures.ensures.fills in
     let bytes = bytes-of line (λ k. omega (arith, c.type_inv.line k)) in
     let inside = subst (λ (text : List ℕ). IsLinePattern text p) (sym c.self.view_is) is in
     let groups = c.groups_are_those_of_texts.ensures.names byte_syntax _ (p.names ∷ []) nfa of.compiled
@@ -35,7 +35,7 @@ returns-clause-fields c = λ p is.
       leftmost = rw of.leftmost refl;
       latest = ap (λ (s : Search). s.earliest) c.new.ensures;
       whole = refl;
-    }) bytes (rw c.new.ensures at c.search.ensures.answer) in
+    }) bytes (rw c.new.ensures at c.search_captures.ensures.answer) in
     let one : ℕ → Option (List ℕ) = λ k. cut line (group_span captures k) in
     let fields = of-groups one c.deref.result.now
     ∙ ap (λ cs. map (λ (g : NamedGroup). one g.number) (map group_of cs)) c.deref.ensures.value

@@ -9,7 +9,7 @@ use Rattle.nfa_meta.specs.RegexState.{RegexState}
 use Rattle.nfa_choice.specs.ChoiceState.{SearchedByRule}
 use Rattle.nfa_meta.specs.WindowRuns.{NeedsPart}
 use Rattle.nfa_meta.proofs.RunLemmas.{part-ran}
-use Rattle.nfa_meta.proofs.regex.Regex.search.Goals as goal
+use Rattle.nfa_meta.proofs.regex.Regex.search_captures.Goals as goal
 
 pub returns-in-Err-Some-clause-answer : goal.returns-in-Err-Some-clause-answer
 returns-in-Err-Some-clause-answer c =
