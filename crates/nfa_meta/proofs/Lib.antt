@@ -13,5 +13,7 @@ pub mod RegexLemmas
 pub mod RewriteLemmas
 pub mod Rewriting
 pub mod RunLemmas
+pub mod SplitLemmas
+pub mod SplitNLemmas
 pub mod WindowLemmas
 pub mod WorkLemmas

@@ -20,5 +20,5 @@ pub use builder::{Builder, Config};
 pub use error::BuildError;
 pub use nfa_choice::Engine;
 pub use nfa_compiler::{CompileError, Syntax};
-pub use regex::{CapturesMatches, FindMatches, HalfMatches, Regex};
+pub use regex::{CapturesMatches, FindMatches, HalfMatches, Regex, Split, SplitN};
 pub use set::{RegexSet, SetMatches};

@@ -30,6 +30,7 @@ mod quick;
 mod replace;
 mod rewrite;
 mod split;
+mod split_iter;
 mod start;
 mod window;
 
@@ -46,6 +47,7 @@ use nfa_match_spans::records_match_spans;
 use nfa_onepass::OnePass;
 use nfa_prefix::Literals;
 use regex_search_core::{GroupInfo, HalfMatch, Input, Match, MatchKind, NonMaxUsize, PatternID};
+pub use split_iter::{Split, SplitN};
 use std::alloc::Global;
 use std::marker::Model;
 use thompson_nfa::NFA;
