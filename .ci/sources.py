@@ -15,7 +15,7 @@ root = pathlib.Path(__file__).resolve().parent.parent
 # the sources, the types, and the functions outside of types.
 GROUPS = [
     ('One regex', 'nfa_meta', 'nfa_meta',
-     'Regex RegexSet SetMatches Builder Config BuildError FindMatches CapturesMatches HalfMatches', ''),
+     'Regex RegexSet SetMatches Builder Config BuildError FindMatches CapturesMatches HalfMatches Split SplitN', ''),
     ('Templates of replacements', 'nfa_meta::interpolate', 'nfa_meta', 'Template Part TemplateError', ''),
     ('The PikeVM', 'nfa_engines::pikevm', 'nfa_pikevm', 'PikeVM Cache Config Builder FindMatches CapturesMatches', ''),
     ('The backtracker', 'nfa_engines::backtrack', 'nfa_backtrack',

@@ -73,10 +73,14 @@ fn fields_are_around_the_matches(rt: HostRuntime) -> Result<(), Fail> {
         let mut regex = Regex::new(alloc, pattern)?;
         let spans = regex.split_all(alloc, haystack.as_bytes())?;
         expect_texts(&rt, haystack, &spans, wanted);
+        let spans: Vec<Span> = regex.split(haystack.as_bytes()).collect(alloc)?;
+        expect_texts(&rt, haystack, &spans, wanted);
     }
     for &(pattern, haystack, limit, wanted) in FIRST_FIELDS {
         let mut regex = Regex::new(alloc, pattern)?;
         let spans = regex.splitn_all(alloc, haystack.as_bytes(), limit)?;
+        expect_texts(&rt, haystack, &spans, wanted);
+        let spans: Vec<Span> = regex.splitn(haystack.as_bytes(), limit).collect(alloc)?;
         expect_texts(&rt, haystack, &spans, wanted);
     }
     Ok(())

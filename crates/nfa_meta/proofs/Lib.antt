@@ -14,5 +14,7 @@ pub mod RegexLemmas
 pub mod RewriteLemmas
 pub mod Rewriting
 pub mod RunLemmas
+pub mod SplitLemmas
+pub mod SplitNLemmas
 pub mod WindowLemmas
 pub mod WorkLemmas

@@ -11,6 +11,7 @@ pub mod RegexSets
 pub mod RegexState
 pub mod Replaced
 pub mod Rewritten
+pub mod Splits
 pub mod Templates
 pub mod TemplateTexts
 pub mod Windowed

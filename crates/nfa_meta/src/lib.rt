@@ -20,6 +20,6 @@ pub use builder::{Builder, Config};
 pub use error::BuildError;
 pub use nfa_choice::Engine;
 pub use nfa_compiler::{CompileError, Flags, Syntax};
-pub use regex::{CapturesMatches, FindMatches, HalfMatches, Regex};
+pub use regex::{CapturesMatches, FindMatches, HalfMatches, Regex, Split, SplitN};
 pub use regex_syntax::escape;
 pub use set::{RegexSet, SetMatches};

@@ -33,6 +33,7 @@ mod replace;
 mod rewrite;
 mod search;
 mod split;
+mod split_iter;
 mod start;
 mod window;
 
@@ -49,6 +50,7 @@ use nfa_match_spans::records_match_spans;
 use nfa_onepass::OnePass;
 use nfa_prefix::Literals;
 use regex_search_core::{GroupInfo, HalfMatch, Input, Match, MatchKind, NonMaxUsize, PatternID};
+pub use split_iter::{Split, SplitN};
 use std::alloc::Global;
 use std::marker::Model;
 use thompson_nfa::NFA;
