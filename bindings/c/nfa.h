@@ -1,123 +1,28 @@
-/* Regular expressions by a proved engine, for C99 and C++. docs/BINDINGS.md is the manual.
+/* Regular expressions by a proved engine, for C99 and C++. nfa(3) is the manual page, docs/BINDINGS.md the guide.
  *
- * The functions nfa_regex_.. are the library's. Their proofs hold for every call that keeps to this:
- *   - No pointer is null, also where the length is 0. A length is at most PTRDIFF_MAX, and the memory has it.
- *   - A handle is all zero at first, as by NFA_REGEX_INIT. Move it, but do not copy it: of two copies only one may be
- *     used. C does not write its fields.
- *   - What a function writes (handle, match, offset, slots) overlaps nothing else that it is given. `from` and `to` are
- *     two handles.
- *   - One call at a time is made on a handle, and a handle stays on the thread that made it. Another thread makes its own.
- *   - malloc, realloc and free are of one allocator, and align to 16 bytes. No call is made from a signal handler, or
- *     in the child of a fork of a program with threads.
+ *     nfa_regex re = NFA_REGEX_INIT;
+ *     nfa_iter iter = NFA_ITER_INIT;
+ *     nfa_match m;
+ *     if (nfa_compile(&re, "[0-9]+", 6, NULL, NULL) != NFA_OK)
+ *         return 1;
+ *     while (nfa_iter_next(&iter, &re, "a1 b22", 6, &m) == NFA_FOUND)
+ *         printf("%zu..%zu\n", m.start, m.end);
+ *     nfa_free(&re);
  *
- * The functions without _regex_ test null pointers and lengths, and call those. They take null with the length 0. Use
- * them, unless a wrapper of your own gives slices that are never null. */
+ * Names are those of rure.h, with `nfa_` for `rure_`. The caller owns handles, slots and texts: nothing is returned
+ * that has to be freed, and nothing aborts. Texts need no zero at their end, and offsets count bytes from the start of
+ * the haystack. nfa_regex.h has the types and codes, what a caller must ensure, and the library's own functions. Those
+ * here test null pointers and lengths, and call them. They take null with the length 0. */
 #ifndef NFA_H
 #define NFA_H
 
-#include <stdbool.h>
-#include <stddef.h>
-#include <stdint.h>
+#include "nfa_regex.h"
+#include <stdlib.h>
+#include <string.h>
 
 #ifdef __cplusplus
 extern "C" {
 #endif
-
-/* A regex, or nothing. */
-typedef struct nfa_regex {
-    bool ready;
-    struct {
-        void *at;
-    } slot;
-} nfa_regex;
-
-#define NFA_REGEX_INIT { false, { NULL } }
-
-/* A match: the number of its pattern, and byte offsets into the haystack. */
-typedef struct nfa_match {
-    size_t pattern, start, end;
-} nfa_match;
-
-/* What functions return. */
-enum {
-    NFA_FOUND = 1,    /* there is a match, or a group */
-    NFA_NONE = 0,     /* there is none */
-    NFA_OK = 0,       /* the handle is full */
-    NFA_EMPTY = -1,   /* the handle is empty */
-    NFA_RANGE = -2,   /* not start <= end <= len */
-    NFA_MEMORY = -3,  /* allocation failed; never by a search */
-    NFA_UTF8 = -4,    /* the pattern or the name is not UTF-8 */
-    NFA_PATTERN = -5, /* the text is not a pattern, or the pattern exceeds the size limit */
-    NFA_ARGUMENT = -6 /* a pointer is null, or a length is above PTRDIFF_MAX; only of the functions without _regex_ */
-};
-
-/* The value of a slot that no group has set. */
-#define NFA_UNSET SIZE_MAX
-
-/* Flags of nfa_options. */
-enum {
-    NFA_CASE_INSENSITIVE = 1,
-    NFA_MULTI_LINE = 2,           /* ^ and $ match at each line */
-    NFA_DOT_MATCHES_NEW_LINE = 4,
-    NFA_SWAP_GREED = 8,           /* x* and x*? mean each other */
-    NFA_IGNORE_WHITESPACE = 16,   /* spaces and comments (# to the end of the line) in the pattern mean nothing */
-    NFA_CRLF = 32,                /* \r\n ends a line */
-    NFA_NO_UNICODE = 64,          /* \w, \d, \s, \b and case are those of ASCII */
-    NFA_BYTES = 128,              /* the pattern may match bytes that are not UTF-8 */
-    NFA_ANCHORED = 256,           /* a match begins where the search does */
-    NFA_NO_DFA = 512              /* searches do without the lazy DFA: slower, in less memory */
-};
-
-/* Settings. All zero is the default; so is each 0. */
-typedef struct nfa_options {
-    uint32_t flags;            /* the sum of some flags */
-    size_t size_limit;         /* the most bytes that the tables of the pattern may take: 10485760 */
-    size_t dfa_capacity;       /* the most bytes that the rows of the lazy DFA may take: 16777216 */
-    size_t backtrack_capacity; /* the most bytes that the marks of one search by the backtracker may take */
-} nfa_options;
-
-/* ---- The library's functions ---- */
-
-/* Compiles the pattern, and frees what the handle had. It is empty if this fails: NFA_MEMORY, NFA_UTF8, NFA_PATTERN. */
-int32_t nfa_regex_new(nfa_regex *re, const uint8_t *pattern, size_t pattern_len);
-int32_t nfa_regex_new_with(nfa_regex *re, const uint8_t *pattern, size_t pattern_len, const nfa_options *options);
-
-/* Fills `to` with a copy, whose caches are its own, and frees what `to` had. NFA_EMPTY if `from` is, NFA_MEMORY. */
-int32_t nfa_regex_clone(nfa_regex *from, nfa_regex *to);
-
-/* Empties the handle. An empty handle stays so. */
-void nfa_regex_free(nfa_regex *re);
-
-/* Whether [start, end) of the haystack has a match. Assertions (^ $ \b) see the whole haystack. */
-int32_t nfa_regex_is_match(nfa_regex *re, const uint8_t *hay, size_t len, size_t start, size_t end);
-
-/* Finds the first match, and writes it. Else `found` stays as it was. */
-int32_t nfa_regex_find(nfa_regex *re, const uint8_t *hay, size_t len, size_t start, size_t end, nfa_match *found);
-
-/* Finds an offset at which a match is known, which may be before its end. Faster than nfa_regex_find. */
-int32_t nfa_regex_shortest_match(nfa_regex *re, const uint8_t *hay, size_t len, size_t start, size_t end,
-                                 size_t *offset);
-
-/* Finds the first match, and writes where each group starts and ends: group k to slots 2k and 2k + 1. Group 0 is the
- * match. Slots of groups that did not match, and those past the last group, are NFA_UNSET. `slots` may be shorter. */
-int32_t nfa_regex_captures(nfa_regex *re, const uint8_t *hay, size_t len, size_t start, size_t end, size_t *slots,
-                           size_t slots_len);
-
-/* Twice the number of groups, with group 0; 0 for an empty handle. */
-size_t nfa_regex_slot_count(nfa_regex *re);
-
-/* The number of patterns; 0 for an empty handle. */
-size_t nfa_regex_pattern_count(nfa_regex *re);
-
-/* Finds the group of this name of the pattern (0, if the handle has one), and writes its number. */
-int32_t nfa_regex_group_index(nfa_regex *re, size_t pattern, const uint8_t *name, size_t name_len, size_t *index);
-
-/* Writes why the pattern cannot be compiled, as far as there is room, with no zero at the end. Returns the length of the
- * whole message; 0 if the pattern can be compiled, or if memory is refused. */
-size_t nfa_regex_why(const uint8_t *pattern, size_t pattern_len, const nfa_options *options, uint8_t *message,
-                     size_t message_len);
-
-/* ---- The functions that test what they are given ---- */
 
 /* A slice that the library may be given, for any pointer and length. Null, if there is none. */
 static inline const uint8_t *nfa_slice(const void *bytes, size_t len) {
@@ -126,22 +31,54 @@ static inline const uint8_t *nfa_slice(const void *bytes, size_t len) {
     return (const uint8_t *)(bytes == NULL ? "" : bytes);
 }
 
-static inline int32_t nfa_new(nfa_regex *re, const void *pattern, size_t pattern_len) {
-    const uint8_t *text = nfa_slice(pattern, pattern_len);
-    return re == NULL || text == NULL ? NFA_ARGUMENT : nfa_regex_new(re, text, pattern_len);
+/* The same for bytes that are written. `none` stands for null. */
+static inline uint8_t *nfa_room(void *bytes, size_t len, uint8_t *none) {
+    if (len > PTRDIFF_MAX || (bytes == NULL && len != 0))
+        return NULL;
+    return bytes == NULL ? none : (uint8_t *)bytes;
 }
 
-/* Null options are the default. */
-static inline int32_t nfa_new_with(nfa_regex *re, const void *pattern, size_t pattern_len, const nfa_options *options) {
+/* ---- Compiling ---- */
+
+/* Clears the error, for this code. */
+static inline void nfa_error_begin(nfa_error *error, int32_t code) {
+    error->code = code;
+    error->place.pattern = error->place.start = error->place.end = NFA_UNSET;
+    error->message[0] = 0;
+}
+
+/* Ends the message in a zero. It has `len` bytes, of which the room took as many as it had. */
+static inline void nfa_error_end(nfa_error *error, size_t len) {
+    size_t room = sizeof error->message - 1;
+    error->message[len < room ? len : room] = 0;
+}
+
+/* Compiles the pattern, and frees what the handle had. Null options are the default. Writes why it fails, unless
+ * `error` is null. */
+static inline int32_t nfa_compile(nfa_regex *re, const void *pattern, size_t pattern_len, const nfa_options *options,
+                                  nfa_error *error) {
     const uint8_t *text = nfa_slice(pattern, pattern_len);
-    if (re == NULL || text == NULL)
-        return NFA_ARGUMENT;
-    return options == NULL ? nfa_regex_new(re, text, pattern_len)
-                           : nfa_regex_new_with(re, text, pattern_len, options);
+    nfa_options none = NFA_OPTIONS_INIT;
+    const nfa_options *set = options == NULL ? &none : options;
+    int32_t code = re == NULL || text == NULL ? (int32_t)NFA_ARGUMENT : nfa_regex_new_with(re, text, pattern_len, set);
+    if (error == NULL)
+        return code;
+    nfa_error_begin(error, code);
+    if (code != NFA_OK && code != NFA_ARGUMENT) {
+        nfa_error_end(error, nfa_regex_why(text, pattern_len, set, (uint8_t *)error->message,
+                                           sizeof error->message - 1));
+        nfa_regex_place(text, pattern_len, set, &error->place);
+    }
+    return code;
+}
+
+/* The message of an error: empty for none, and where memory was refused for it. */
+static inline const char *nfa_error_message(const nfa_error *error) {
+    return error == NULL ? "" : error->message;
 }
 
 static inline int32_t nfa_clone(nfa_regex *from, nfa_regex *to) {
-    return from == NULL || to == NULL || from == to ? NFA_ARGUMENT : nfa_regex_clone(from, to);
+    return from == NULL || to == NULL || from == to ? (int32_t)NFA_ARGUMENT : nfa_regex_clone(from, to);
 }
 
 static inline void nfa_free(nfa_regex *re) {
@@ -149,11 +86,11 @@ static inline void nfa_free(nfa_regex *re) {
         nfa_regex_free(re);
 }
 
-/* Writes a message that ends in a zero. Null options are the default. */
+/* Writes a message of any length that ends in a zero, and returns its length without that. */
 static inline size_t nfa_why(const void *pattern, size_t pattern_len, const nfa_options *options, char *message,
                              size_t room) {
     const uint8_t *text = nfa_slice(pattern, pattern_len);
-    nfa_options none = {0, 0, 0, 0};
+    nfa_options none = NFA_OPTIONS_INIT;
     if (text == NULL || message == NULL || room == 0 || room > PTRDIFF_MAX)
         return 0;
     size_t len = nfa_regex_why(text, pattern_len, options == NULL ? &none : options, (uint8_t *)message, room - 1);
@@ -161,27 +98,31 @@ static inline size_t nfa_why(const void *pattern, size_t pattern_len, const nfa_
     return len;
 }
 
-/* These four search from `start` to the end of the haystack. */
+/* ---- Searching, from `start` to the end of the haystack ---- */
+
 static inline int32_t nfa_is_match(nfa_regex *re, const void *hay, size_t len, size_t start) {
     const uint8_t *text = nfa_slice(hay, len);
-    return re == NULL || text == NULL ? NFA_ARGUMENT : nfa_regex_is_match(re, text, len, start, len);
+    return re == NULL || text == NULL ? (int32_t)NFA_ARGUMENT : nfa_regex_is_match(re, text, len, start, len);
 }
 
 static inline int32_t nfa_find(nfa_regex *re, const void *hay, size_t len, size_t start, nfa_match *found) {
     const uint8_t *text = nfa_slice(hay, len);
-    return re == NULL || text == NULL || found == NULL ? NFA_ARGUMENT
-                                                       : nfa_regex_find(re, text, len, start, len, found);
+    if (re == NULL || text == NULL || found == NULL)
+        return NFA_ARGUMENT;
+    return nfa_regex_find(re, text, len, start, len, found);
 }
 
-static inline int32_t nfa_shortest_match(nfa_regex *re, const void *hay, size_t len, size_t start, size_t *offset) {
+static inline int32_t nfa_shortest_match(nfa_regex *re, const void *hay, size_t len, size_t start, size_t *end) {
     const uint8_t *text = nfa_slice(hay, len);
-    return re == NULL || text == NULL || offset == NULL ? NFA_ARGUMENT
-                                                        : nfa_regex_shortest_match(re, text, len, start, len, offset);
+    if (re == NULL || text == NULL || end == NULL)
+        return NFA_ARGUMENT;
+    return nfa_regex_shortest_match(re, text, len, start, len, end);
 }
 
-/* Null slots with the length 0 ask only whether there is a match. */
-static inline int32_t nfa_captures(nfa_regex *re, const void *hay, size_t len, size_t start, size_t *slots,
-                                   size_t slots_len) {
+/* Writes the slots of the groups, as nfa_regex_captures. Null slots with the length 0 ask only whether there is a
+ * match. */
+static inline int32_t nfa_find_captures(nfa_regex *re, const void *hay, size_t len, size_t start, size_t *slots,
+                                        size_t slots_len) {
     const uint8_t *text = nfa_slice(hay, len);
     size_t none = 0;
     if (re == NULL || text == NULL || slots_len > PTRDIFF_MAX / sizeof *slots || (slots == NULL && slots_len != 0))
@@ -189,37 +130,228 @@ static inline int32_t nfa_captures(nfa_regex *re, const void *hay, size_t len, s
     return nfa_regex_captures(re, text, len, start, len, slots == NULL ? &none : slots, slots_len);
 }
 
-static inline size_t nfa_slot_count(nfa_regex *re) {
-    return re == NULL ? 0 : nfa_regex_slot_count(re);
+/* ---- Groups ---- */
+
+/* The number of groups, with group 0. Slots for all are twice as many. */
+static inline size_t nfa_captures_len(nfa_regex *re) {
+    return re == NULL ? 0 : nfa_regex_slot_count(re) / 2;
 }
 
-static inline int32_t nfa_group_index(nfa_regex *re, const void *name, size_t name_len, size_t *index) {
-    const uint8_t *text = nfa_slice(name, name_len);
-    return re == NULL || text == NULL || index == NULL ? NFA_ARGUMENT
-                                                       : nfa_regex_group_index(re, 0, text, name_len, index);
+/* Reads a group of these slots. False if it did not match, or if there is none. */
+static inline bool nfa_captures_at(const size_t *slots, size_t slots_len, size_t group, nfa_match *found) {
+    if (slots == NULL || found == NULL || group >= slots_len / 2 || slots[2 * group] == NFA_UNSET)
+        return false;
+    found->pattern = 0;
+    found->start = slots[2 * group];
+    found->end = slots[2 * group + 1];
+    return true;
 }
+
+/* Finds the group of this name, and writes its number. */
+static inline int32_t nfa_capture_name_index(nfa_regex *re, const void *name, size_t name_len, size_t *index) {
+    const uint8_t *text = nfa_slice(name, name_len);
+    if (re == NULL || text == NULL || index == NULL)
+        return NFA_ARGUMENT;
+    return nfa_regex_group_index(re, 0, text, name_len, index);
+}
+
+/* Writes the names of all groups of the pattern, a line for each: see nfa_regex_group_names. */
+static inline int32_t nfa_capture_names(const void *pattern, size_t pattern_len, const nfa_options *options,
+                                        char *names, size_t room, size_t *count) {
+    const uint8_t *text = nfa_slice(pattern, pattern_len);
+    nfa_options none = NFA_OPTIONS_INIT;
+    uint8_t byte = 0, *to = nfa_room(names, room, &byte);
+    if (text == NULL || to == NULL || count == NULL)
+        return NFA_ARGUMENT;
+    return nfa_regex_group_names(text, pattern_len, options == NULL ? &none : options, to, room, count);
+}
+
+/* The names in such a text, in order. */
+typedef struct nfa_iter_capture_names {
+    const char *at, *end;
+} nfa_iter_capture_names;
+
+static inline nfa_iter_capture_names nfa_iter_capture_names_new(const char *names, size_t count) {
+    nfa_iter_capture_names iter = {names, names};
+    if (names != NULL)
+        iter.end += count;
+    return iter;
+}
+
+/* The name of the next group, which has the length 0 if the group has none. False after the last one. */
+static inline bool nfa_iter_capture_names_next(nfa_iter_capture_names *iter, const char **name, size_t *name_len) {
+    const char *line;
+    if (iter == NULL || name == NULL || name_len == NULL || iter->at == iter->end)
+        return false;
+    line = (const char *)memchr(iter->at, '\n', (size_t)(iter->end - iter->at));
+    if (line == NULL)
+        return false;
+    *name = iter->at;
+    *name_len = (size_t)(line - iter->at);
+    iter->at = line + 1;
+    return true;
+}
+
+/* ---- All matches ---- */
 
 /* All matches, from left to right, which do not overlap. An empty match is not one if the last match ends there. Begin
- * with NFA_ITER_INIT. */
+ * with NFA_ITER_INIT, and give the same regex and haystack each time. After an error or the last match there is no
+ * other. */
 typedef struct nfa_iter {
     size_t at, last; /* where the next search begins, and where the last match ended */
 } nfa_iter;
 
 #define NFA_ITER_INIT { 0, NFA_UNSET }
 
-static inline int32_t nfa_next(nfa_iter *iter, nfa_regex *re, const void *hay, size_t len, nfa_match *found) {
-    if (iter == NULL)
+/* Whether the match is empty, where the last one ended. Then the next search begins one further on. */
+static inline bool nfa_iter_repeats(const nfa_iter *iter, size_t start, size_t end) {
+    return start == end && end == iter->last;
+}
+
+/* Takes the end of the match that this code says was found. */
+static inline int32_t nfa_iter_step(nfa_iter *iter, int32_t code, size_t end) {
+    iter->at = iter->last = code == NFA_FOUND ? end : NFA_UNSET;
+    return code;
+}
+
+/* Finds the next match, and writes it. */
+static inline int32_t nfa_iter_next(nfa_iter *iter, nfa_regex *re, const void *hay, size_t len, nfa_match *found) {
+    nfa_match next = {0, 0, 0};
+    if (iter == NULL || found == NULL)
         return NFA_ARGUMENT;
     if (iter->at > len)
         return NFA_NONE;
-    int32_t code = nfa_find(re, hay, len, iter->at, found);
-    if (code == NFA_FOUND && found->start == found->end && found->end == iter->last)
-        code = iter->at == len ? (int32_t)NFA_NONE : nfa_find(re, hay, len, iter->at + 1, found);
+    int32_t code = nfa_find(re, hay, len, iter->at, &next);
+    if (code == NFA_FOUND && nfa_iter_repeats(iter, next.start, next.end))
+        code = iter->at == len ? (int32_t)NFA_NONE : nfa_find(re, hay, len, iter->at + 1, &next);
     if (code == NFA_FOUND)
-        iter->at = iter->last = found->end;
-    else
-        iter->at = NFA_UNSET;
+        *found = next;
+    return nfa_iter_step(iter, code, next.end);
+}
+
+/* Finds the next match, and writes the slots of its groups: two at least. */
+static inline int32_t nfa_iter_next_captures(nfa_iter *iter, nfa_regex *re, const void *hay, size_t len, size_t *slots,
+                                             size_t slots_len) {
+    if (iter == NULL || slots == NULL || slots_len < 2)
+        return NFA_ARGUMENT;
+    if (iter->at > len)
+        return NFA_NONE;
+    int32_t code = nfa_find_captures(re, hay, len, iter->at, slots, slots_len);
+    if (code == NFA_FOUND && nfa_iter_repeats(iter, slots[0], slots[1]))
+        code = iter->at == len ? (int32_t)NFA_NONE
+                               : nfa_find_captures(re, hay, len, iter->at + 1, slots, slots_len);
+    return nfa_iter_step(iter, code, slots[1]);
+}
+
+/* ---- Texts ---- */
+
+/* Writes the haystack with the template in place of each match, as far as there is room, and its whole length to
+ * `count`. Call it with the room 0 first, and then with as much as it asks for. */
+static inline int32_t nfa_replace_all(nfa_regex *re, const void *hay, size_t len, const void *with, size_t with_len,
+                                      char *text, size_t room, size_t *count) {
+    const uint8_t *from = nfa_slice(hay, len), *filling = nfa_slice(with, with_len);
+    uint8_t byte = 0, *to = nfa_room(text, room, &byte);
+    if (re == NULL || from == NULL || filling == NULL || to == NULL || count == NULL)
+        return NFA_ARGUMENT;
+    return nfa_regex_replace_all(re, from, len, filling, with_len, to, room, count);
+}
+
+/* Writes a pattern that matches the text, likewise. */
+static inline int32_t nfa_escape(const void *text, size_t len, char *pattern, size_t room, size_t *count) {
+    const uint8_t *from = nfa_slice(text, len);
+    uint8_t byte = 0, *to = nfa_room(pattern, room, &byte);
+    if (from == NULL || to == NULL || count == NULL)
+        return NFA_ARGUMENT;
+    return nfa_regex_escape(from, len, to, room, count);
+}
+
+/* ---- Sets ---- */
+
+/* Patterns one after the other, and where each ends. */
+typedef struct nfa_joined {
+    uint8_t *text;
+    size_t *ends;
+    size_t len;
+} nfa_joined;
+
+/* Joins these patterns. NFA_OK, NFA_ARGUMENT or NFA_MEMORY. */
+static inline int32_t nfa_join(nfa_joined *all, const void *const *patterns, const size_t *lens, size_t count) {
+    size_t k;
+    all->len = 0;
+    if (count > PTRDIFF_MAX / sizeof *lens || (count != 0 && (patterns == NULL || lens == NULL)))
+        return NFA_ARGUMENT;
+    for (k = 0; k < count; k++) {
+        if (nfa_slice(patterns[k], lens[k]) == NULL || lens[k] > PTRDIFF_MAX - all->len)
+            return NFA_ARGUMENT;
+        all->len += lens[k];
+    }
+    all->text = (uint8_t *)malloc(all->len + 1);
+    all->ends = (size_t *)malloc((count + 1) * sizeof *all->ends);
+    if (all->text == NULL || all->ends == NULL) {
+        free(all->text);
+        free(all->ends);
+        return NFA_MEMORY;
+    }
+    for (k = 0, all->len = 0; k < count; k++) {
+        memcpy(all->text + all->len, nfa_slice(patterns[k], lens[k]), lens[k]);
+        all->ends[k] = all->len += lens[k];
+    }
+    return NFA_OK;
+}
+
+static inline void nfa_set_free(nfa_set *set) {
+    if (set != NULL)
+        nfa_regex_set_free(set);
+}
+
+/* Compiles a set of `count` patterns, numbered from 0 on, as nfa_compile does one. */
+static inline int32_t nfa_compile_set(nfa_set *set, const void *const *patterns, const size_t *lens, size_t count,
+                                      const nfa_options *options, nfa_error *error) {
+    nfa_options none = NFA_OPTIONS_INIT;
+    const nfa_options *own = options == NULL ? &none : options;
+    nfa_joined all = {NULL, NULL, 0};
+    int32_t code;
+    nfa_set_free(set);
+    code = set == NULL ? (int32_t)NFA_ARGUMENT : nfa_join(&all, patterns, lens, count);
+    if (error != NULL)
+        nfa_error_begin(error, code);
+    if (code != NFA_OK)
+        return code;
+    code = nfa_regex_set_new_with(set, all.text, all.len, all.ends, count, own);
+    if (code != NFA_OK && error != NULL) {
+        error->code = code;
+        nfa_error_end(error, nfa_regex_set_why(all.text, all.len, all.ends, count, own, (uint8_t *)error->message,
+                                               sizeof error->message - 1));
+        nfa_regex_set_place(all.text, all.len, all.ends, count, own, &error->place);
+    }
+    free(all.text);
+    free(all.ends);
     return code;
+}
+
+static inline int32_t nfa_set_clone(nfa_set *from, nfa_set *to) {
+    return from == NULL || to == NULL || from == to ? (int32_t)NFA_ARGUMENT : nfa_regex_set_clone(from, to);
+}
+
+/* The number of patterns. */
+static inline size_t nfa_set_len(nfa_set *set) {
+    return set == NULL ? 0 : nfa_regex_set_len(set);
+}
+
+/* Whether one of the patterns matches from `start` on. */
+static inline int32_t nfa_set_is_match(nfa_set *set, const void *hay, size_t len, size_t start) {
+    const uint8_t *text = nfa_slice(hay, len);
+    return set == NULL || text == NULL ? (int32_t)NFA_ARGUMENT : nfa_regex_set_is_match(set, text, len, start, len);
+}
+
+/* Which patterns match from `start` on: a byte for each, 1 or 0. */
+static inline int32_t nfa_set_matches(nfa_set *set, const void *hay, size_t len, size_t start, uint8_t *marks,
+                                      size_t marks_len) {
+    const uint8_t *text = nfa_slice(hay, len);
+    uint8_t byte = 0, *to = nfa_room(marks, marks_len, &byte);
+    if (set == NULL || text == NULL || to == NULL)
+        return NFA_ARGUMENT;
+    return nfa_regex_set_matches(set, text, len, start, len, to, marks_len);
 }
 
 #ifdef __cplusplus

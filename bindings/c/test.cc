@@ -8,7 +8,8 @@ namespace {
 // A handle that frees itself.
 class Regex {
   public:
-    explicit Regex(std::string_view pattern) : code(nfa_new(&handle, pattern.data(), pattern.size())) {}
+    explicit Regex(std::string_view pattern)
+        : code(nfa_compile(&handle, pattern.data(), pattern.size(), nullptr, nullptr)) {}
     Regex(const Regex &) = delete;
     Regex &operator=(const Regex &) = delete;
     ~Regex() { nfa_free(&handle); }

@@ -1,5 +1,8 @@
 """Compares nfa.py with `re` on random patterns and texts on which the two agree by their rules, and tests what differs.
-Prints "python: passed: N questions", or stops at the first difference. `compare.py N` asks so many."""
+Prints "python: passed: N questions", or stops at the first difference. `compare.py N` asks N questions."""
+import copy
+import doctest
+import pickle
 import random
 import re
 import sys
@@ -32,12 +35,11 @@ def piece(depth):
 
 
 def seen(found):
-    return found and (found.span(), found.groups(), [found.span(group) for group in range(1, found.re.groups + 1)])
+    return found and (found.span(), found.groups(), found.regs, found.lastgroup)
 
 
 def ask(pattern, text, flags):
-    mine, theirs = nfa.compile(pattern, flags), re.compile(pattern, int(
-        (re.I if flags & nfa.I else 0) | (re.M if flags & nfa.M else 0) | (re.S if flags & nfa.S else 0)))
+    mine, theirs = nfa.compile(pattern, flags), re.compile(pattern, flags)
     pos = SOURCE.randrange(len(text) + 1)
     for call in ['search', 'match', 'fullmatch']:
         for arguments in [(text,), (text, pos)]:
@@ -64,7 +66,7 @@ def random_questions(count):
     for number in range(count):
         pattern = piece(3)
         text = ''.join(SOURCE.choice(LETTERS) for _ in range(SOURCE.randrange(12)))
-        flags = SOURCE.choice([0, 0, nfa.I, nfa.M, nfa.S])
+        flags = SOURCE.choice([0, 0, re.I, re.M, re.S])
         if number % 4 == 0 and pattern.isascii():
             ask(pattern.encode(), text.encode('latin-1'), flags)
         else:
@@ -74,6 +76,15 @@ def random_questions(count):
 def want(said, wanted):
     if said != wanted:
         stop('gives', said, 'and not', wanted)
+
+
+def refuses(wanted, call, *arguments):
+    """Stops unless the call ends with this error."""
+    try:
+        call(*arguments)
+    except wanted:
+        return
+    stop(call, arguments, 'is not refused by', wanted)
 
 
 def written_cases():
@@ -89,6 +100,16 @@ def written_cases():
     want(nfa.match('b', 'ab', ), None)
     want(nfa.search('(a)|(b)', 'b').lastindex, 2)
     want(nfa.search('a', 'a\ud800a').span(), (0, 1))
+    named = nfa.search('(?P<a>x)(?P<b>y)?(z)', '-xz')
+    want((named.lastgroup, named.lastindex, named.regs), (None, 3, ((1, 3), (1, 2), (-1, -1), (2, 3))))
+    want(nfa.match('(?P<a>x)', 'x').lastgroup, 'a')
+    want(nfa.compile(b'(?P<a>x)').groupindex, {'a': 1})
+    for text in ['a.b*', 'é (x)', b'a.b\xe9', '']:
+        want(nfa.fullmatch(nfa.escape(text), text).group(), text)
+    word = nfa.compile('a', re.I)
+    want([copy.copy(word) is word, pickle.loads(pickle.dumps(word)) == word], [True, True])
+    want(word == nfa.compile('a'), False)
+    want(doctest.testmod(nfa).failed, 0)
     for pattern in ['(', 'a{2}{', r'(a)\1', '(?=a)']:
         try:
             nfa.compile(pattern)
@@ -97,12 +118,11 @@ def written_cases():
             want(refused.pos is None, False)
         else:
             stop(pattern, 'is not refused')
-    try:
-        nfa.search('a', b'a')
-    except TypeError:
-        pass
-    else:
-        stop('bytes are searched by a pattern of str')
+    refuses(TypeError, nfa.search, 'a', b'a')
+    refuses(ValueError, nfa.compile, b'a', re.L)
+    refuses(ValueError, nfa.compile, word, re.I)
+    refuses(IndexError, named.group, 'c')
+    refuses(nfa.error, nfa.sub, 'a', r'\g<x>', 'a')
     word, found = nfa.compile(r'\w+'), []
     threads = [threading.Thread(target=lambda: found.append(len(word.findall('ab c d')))) for _ in range(4)]
     for thread in threads:

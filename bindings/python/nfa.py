@@ -1,25 +1,32 @@
 """Regular expressions by a proved engine, in the words of `re`, over libnfa.so. docs/BINDINGS.md is the manual.
 
+    >>> import nfa
+    >>> nfa.search(r'(?P<year>\\d{4})-(\\d\\d)', 'on 2024-02')['year']
+    '2024'
+    >>> nfa.sub('[0-9]+', r'<\\g<0>>', 'a1 b22')
+    'a<1> b<22>'
+    >>> [found.span() for found in nfa.finditer(b'b+', b'ab abb')]
+    [(1, 2), (4, 6)]
+
 Patterns have the syntax of Rust's `regex`: no look-around and no back-references; `\\z` is the end; `$` does not match
 before a last line feed. An empty match is not one if the last match ends there. A pattern of str matches characters,
-and one of bytes matches bytes. Each thread that uses a pattern compiles it for itself.
+and one of bytes matches bytes. Each thread that uses a pattern compiles it for itself. The flags are those of `re`.
 """
 import ctypes as c
 import os
 import threading
+from re import A, ASCII, DOTALL, I, IGNORECASE, M, MULTILINE, S, U, UNICODE, VERBOSE, X
 
-__all__ = ['A', 'ASCII', 'DOTALL', 'I', 'IGNORECASE', 'M', 'MULTILINE', 'Match', 'Pattern', 'S', 'VERBOSE', 'X',
-           'compile', 'error', 'escape', 'findall', 'finditer', 'fullmatch', 'match', 'search', 'split', 'sub', 'subn']
+__all__ = ['A', 'ASCII', 'DOTALL', 'I', 'IGNORECASE', 'M', 'MULTILINE', 'Match', 'Pattern', 'S', 'U', 'UNICODE',
+           'VERBOSE', 'X', 'compile', 'error', 'escape', 'findall', 'finditer', 'fullmatch', 'match', 'purge', 'search',
+           'split', 'sub', 'subn']
 
-I = IGNORECASE = 1
-M = MULTILINE = 2
-S = DOTALL = 4
-X = VERBOSE = 16
-A = ASCII = 64
-_BYTES, _ANCHORED = 128, 256
+# The library's flags.
+_ASCII, _BYTES, _ANCHORED = 64, 128, 256
+_FLAGS = {I: 1, M: 2, S: 4, X: 16, A: _ASCII, U: 0}
 
 _UNSET = c.c_size_t(-1).value
-_FOUND, _MEMORY = 1, -3
+_FOUND, _OK, _MEMORY = 1, 0, -3
 
 
 class _Slot(c.Structure):
@@ -46,7 +53,8 @@ def _library():
             ('nfa_regex_free', None, handle),
             ('nfa_regex_captures', c.c_int32, handle, text, size, size, size, c.POINTER(size), size),
             ('nfa_regex_slot_count', size, handle),
-            ('nfa_regex_group_index', c.c_int32, handle, size, text, size, c.POINTER(size))]:
+            ('nfa_regex_group_names', c.c_int32, text, size, c.POINTER(_Options), text, size, c.POINTER(size)),
+            ('nfa_regex_escape', c.c_int32, text, size, text, size, c.POINTER(size))]:
         function = getattr(library, name)
         function.restype, function.argtypes = result, arguments
     return library
@@ -72,6 +80,32 @@ def _why(text, flags):
     return room.raw[:size].decode(errors='replace')
 
 
+def _written(write, *given):
+    """The text that this function of the library writes: the first call asks for its length."""
+    size, room = c.c_size_t(), b''
+    for _ in range(2):
+        room = c.create_string_buffer(max(1, size.value))
+        code = write(*given, room, size.value, c.byref(size))
+        if code == _MEMORY:
+            raise MemoryError
+        if code != _OK:
+            raise ValueError
+    return room.raw[:size.value].decode()
+
+
+def _group_names(text, flags):
+    """The names of the groups with their numbers."""
+    lines = _written(_lib.nfa_regex_group_names, text, len(text), c.byref(_Options(flags))).split('\n')
+    return {name: group for group, name in enumerate(lines) if name}
+
+
+def _flags_of(flags):
+    """The library's flags for those of `re`."""
+    if flags & ~sum(_FLAGS):
+        raise ValueError(f'flags are not supported: {flags!r}')
+    return sum(own for flag, own in _FLAGS.items() if flags & flag)
+
+
 class _Compiled:
     """A full handle of the library, with room for the slots of its groups."""
 
@@ -92,11 +126,6 @@ class _Compiled:
         """The offsets of the groups of the match, or none."""
         code = _lib.nfa_regex_captures(c.byref(self.handle), hay, end, start, end, self.slots, self.count)
         return list(self.slots) if code == _FOUND else None
-
-    def group_index(self, name):
-        index, text = c.c_size_t(), name.encode()
-        code = _lib.nfa_regex_group_index(c.byref(self.handle), 0, text, len(text), c.byref(index))
-        return index.value if code == _FOUND else None
 
 
 class _Text:
@@ -162,6 +191,16 @@ class Match:
         return {name: self._one(group, default) for name, group in self.re.groupindex.items()}
 
     @property
+    def regs(self):
+        """The spans of all groups."""
+        return tuple(self.span(group) for group in range(self.re.groups + 1))
+
+    @property
+    def lastgroup(self):
+        """The name of that group, if it has one."""
+        return next((name for name, group in self.re.groupindex.items() if group == self.lastindex), None)
+
+    @property
     def lastindex(self):
         """The group that ends last, and of several the one that begins first."""
         ends = [(-self.end(group), self.start(group), group) for group in range(1, self.re.groups + 1)
@@ -169,40 +208,31 @@ class Match:
         return min(ends)[2] if ends else None
 
     def expand(self, template):
-        """The template, in which \\1, \\g<1> and \\g<name> stand for groups, and \\n, \\t, \\r and \\\\ for a character."""
+        """The template: \\1, \\g<1> and \\g<name> stand for groups, and \\n, \\t, \\r and \\\\ for a character."""
         return self.re._template(template)(self)
 
     def __repr__(self):
         return f'<nfa.Match object; span={self.span()}, match={self.group()!r}>'
 
 
-def _names(text):
-    """Words of a pattern that may be names of its groups."""
-    for part in text.split('(?')[1:]:
-        name, found, _ = part.removeprefix('P').removeprefix('<').partition('>')
-        if found and name.isidentifier():
-            yield name
-
-
 class Pattern:
     """A compiled pattern."""
 
     def __init__(self, pattern, flags=0):
-        self.pattern, self.flags = pattern, flags
+        self.pattern, self.flags, self._flags = pattern, flags, _flags_of(flags)
         if isinstance(pattern, str):
-            self._text, self._flags = pattern, flags
+            self._text = pattern
         else:
             # In such a text a byte above 0x7F is its escape.
             self._text = ''.join(chr(byte) if byte < 0x80 else f'\\x{byte:02X}' for byte in pattern)
-            self._flags = flags | A | _BYTES
+            self._flags |= _ASCII | _BYTES
         self._own = threading.local()
         try:
             first = self._compiled('search')
         except ValueError:
             raise error(_why(self._text.encode(), self._flags), pattern) from None
         self.groups = first.count // 2 - 1
-        indices = ((name, first.group_index(name)) for name in _names(self._text))
-        self.groupindex = {name: index for name, index in indices if index is not None}
+        self.groupindex = _group_names(self._text.encode(), self._flags)
 
     def _index(self, name):
         return self.groupindex.get(name)
@@ -220,7 +250,7 @@ class Pattern:
         if how == 'match':
             return _Compiled(self._text.encode(), self._flags | _ANCHORED)
         # The pattern may end in a comment.
-        for end in [r')\z', '\n)\\z'] if '#' in self._text or self._flags & X else [r')\z']:
+        for end in [r')\z', '\n)\\z'] if '#' in self._text or self.flags & X else [r')\z']:
             try:
                 made = _Compiled(f'(?:{self._text}{end}'.encode(), self._flags | _ANCHORED)
             except ValueError:
@@ -328,12 +358,35 @@ class Pattern:
             raise error('a template names no group', template)
         return number, size
 
+    def _key(self):
+        return type(self.pattern), self.pattern, self.flags
+
+    def __eq__(self, other):
+        return isinstance(other, Pattern) and self._key() == other._key()
+
+    def __hash__(self):
+        return hash(self._key())
+
+    def __reduce__(self):
+        return compile, (self.pattern, self.flags)
+
+    def __copy__(self):
+        return self
+
+    def __deepcopy__(self, memo):
+        return self
+
     def __repr__(self):
         return f'nfa.compile({self.pattern!r})'
 
 
 def compile(pattern, flags=0):
-    return pattern if isinstance(pattern, Pattern) else _kept(pattern, flags)
+    """The pattern, compiled. The last ones are kept."""
+    if not isinstance(pattern, Pattern):
+        return _kept(pattern, flags)
+    if flags:
+        raise ValueError('a compiled pattern takes no flags')
+    return pattern
 
 
 _patterns = {}
@@ -346,6 +399,11 @@ def _kept(pattern, flags):
             _patterns.clear()
         _patterns[key] = Pattern(pattern, flags)
     return _patterns[key]
+
+
+def purge():
+    """Forgets the patterns that are kept."""
+    _patterns.clear()
 
 
 def search(pattern, string, flags=0):
@@ -382,6 +440,7 @@ def subn(pattern, repl, string, count=0, flags=0):
 
 def escape(pattern):
     """A pattern that matches this text."""
-    if isinstance(pattern, str):
-        return ''.join('\\' + letter if letter in r'\.+*?()|[]{}^$#&-~' else letter for letter in pattern)
-    return escape(pattern.decode('latin-1')).encode('latin-1')
+    is_text = isinstance(pattern, str)
+    text = (pattern if is_text else bytes(pattern).decode('latin-1')).encode()
+    escaped = _written(_lib.nfa_regex_escape, text, len(text))
+    return escaped if is_text else escaped.encode('latin-1')

@@ -1,5 +1,4 @@
 //! Matches, and the groups of one.
-use crate::shared::Shared;
 use std::ops::{Index, Range};
 use std::sync::Arc;
 
@@ -16,22 +15,27 @@ impl<'h> Match<'h> {
         Match { hay, start, end }
     }
 
+    /// The offset of its first byte.
     pub fn start(&self) -> usize {
         self.start
     }
 
+    /// The offset after its last byte.
     pub fn end(&self) -> usize {
         self.end
     }
 
+    /// Both offsets.
     pub fn range(&self) -> Range<usize> {
         self.start..self.end
     }
 
+    /// The number of its bytes.
     pub fn len(&self) -> usize {
         self.end - self.start
     }
 
+    /// Whether it has no bytes.
     pub fn is_empty(&self) -> bool {
         self.start == self.end
     }
@@ -42,11 +46,26 @@ impl<'h> Match<'h> {
     }
 }
 
+impl From<Match<'_>> for Range<usize> {
+    fn from(m: Match<'_>) -> Range<usize> {
+        m.range()
+    }
+}
+
 /// The groups of a match. Group 0 is the match.
+///
+/// ```
+/// # use nfa_engines::Regex;
+/// let date = Regex::new(r"(?<year>\d{4})-(\d\d)")?;
+/// let groups = date.captures(b"on 2024-02").unwrap();
+/// assert_eq!(groups.get_match().range(), 3..10);
+/// assert_eq!((&groups["year"], &groups[2]), (&b"2024"[..], &b"02"[..]));
+/// # Ok::<(), nfa_engines::Error>(())
+/// ```
 #[derive(Clone, Debug)]
 pub struct Captures<'h> {
     pub(crate) hay: &'h [u8],
-    pub(crate) shared: Arc<Shared>,
+    pub(crate) names: Arc<[Option<String>]>,
     pub(crate) slots: Vec<usize>,
 }
 
@@ -60,9 +79,14 @@ impl<'h> Captures<'h> {
         }
     }
 
+    /// The match.
+    pub fn get_match(&self) -> Match<'h> {
+        Match::new(self.hay, self.slots[0], self.slots[1])
+    }
+
     /// What the group of this name matched, if it did.
     pub fn name(&self, name: &str) -> Option<Match<'h>> {
-        self.get(self.shared.with(|handle| handle.group_index(name))?)
+        self.get(self.names.iter().position(|own| own.as_deref() == Some(name))?)
     }
 
     /// The number of groups, with group 0.

@@ -1,74 +1,80 @@
 //! Iterators over matches, and over what is between them.
 use crate::{Captures, Match, Regex};
+use std::marker::PhantomData;
 
-/// Where the next search begins, and where the last match ended. An empty match that ends there is none.
-struct Steps {
-    at: usize,
-    last: Option<usize>,
+/// What a search finds: a match, or its groups.
+pub trait Found<'h>: Sized {
+    /// The first one from this offset on.
+    fn first(regex: &Regex, hay: &'h [u8], start: usize) -> Option<Self>;
+
+    /// The start and the end of the match.
+    fn span(&self) -> (usize, usize);
 }
 
-impl Steps {
-    fn next<T>(&mut self, len: usize, search: impl Fn(usize) -> Option<T>, span: impl Fn(&T) -> (usize, usize)) -> Option<T> {
-        if self.at > len {
+impl<'h> Found<'h> for Match<'h> {
+    fn first(regex: &Regex, hay: &'h [u8], start: usize) -> Option<Self> {
+        regex.find_at(hay, start)
+    }
+
+    fn span(&self) -> (usize, usize) {
+        (self.start(), self.end())
+    }
+}
+
+impl<'h> Found<'h> for Captures<'h> {
+    fn first(regex: &Regex, hay: &'h [u8], start: usize) -> Option<Self> {
+        regex.captures_at(hay, start)
+    }
+
+    fn span(&self) -> (usize, usize) {
+        (self.slots[0], self.slots[1])
+    }
+}
+
+/// All that is found, from left to right. An empty match is none if the last match ends there.
+#[derive(Debug)]
+pub struct Iter<'r, 'h, F> {
+    regex: &'r Regex,
+    hay: &'h [u8],
+    // Where the next search begins, and where the last match ended.
+    at: usize,
+    last: Option<usize>,
+    found: PhantomData<fn() -> F>,
+}
+
+/// All matches, from left to right.
+pub type Matches<'r, 'h> = Iter<'r, 'h, Match<'h>>;
+
+/// The groups of all matches, from left to right.
+pub type CaptureMatches<'r, 'h> = Iter<'r, 'h, Captures<'h>>;
+
+impl<'r, 'h, F> Iter<'r, 'h, F> {
+    pub(crate) fn new(regex: &'r Regex, hay: &'h [u8]) -> Self {
+        Iter { regex, hay, at: 0, last: None, found: PhantomData }
+    }
+}
+
+impl<'h, F: Found<'h>> Iterator for Iter<'_, 'h, F> {
+    type Item = F;
+
+    fn next(&mut self) -> Option<F> {
+        if self.at > self.hay.len() {
             return None;
         }
-        let mut found = search(self.at);
-        if let Some((start, end)) = found.as_ref().map(&span) {
-            if start == end && self.last == Some(end) {
-                found = if self.at < len { search(self.at + 1) } else { None };
-            }
+        let mut found = F::first(self.regex, self.hay, self.at);
+        if found.as_ref().is_some_and(|m| m.span() == (m.span().1, self.last.unwrap_or(usize::MAX))) {
+            found = if self.at < self.hay.len() { F::first(self.regex, self.hay, self.at + 1) } else { None };
         }
-        self.last = found.as_ref().map(|m| span(m).1);
+        self.last = found.as_ref().map(|m| m.span().1);
         self.at = self.last.unwrap_or(usize::MAX);
         found
     }
 }
 
-/// All matches, from left to right.
-pub struct Matches<'r, 'h> {
-    regex: &'r Regex,
-    hay: &'h [u8],
-    steps: Steps,
-}
+impl<'h, F: Found<'h>> std::iter::FusedIterator for Iter<'_, 'h, F> {}
 
-impl<'r, 'h> Matches<'r, 'h> {
-    pub(crate) fn new(regex: &'r Regex, hay: &'h [u8]) -> Self {
-        Matches { regex, hay, steps: Steps { at: 0, last: None } }
-    }
-}
-
-impl<'h> Iterator for Matches<'_, 'h> {
-    type Item = Match<'h>;
-
-    fn next(&mut self) -> Option<Match<'h>> {
-        let (regex, hay) = (self.regex, self.hay);
-        self.steps.next(hay.len(), |at| regex.find_at(hay, at), |m| (m.start(), m.end()))
-    }
-}
-
-/// The groups of all matches, from left to right.
-pub struct CaptureMatches<'r, 'h> {
-    regex: &'r Regex,
-    hay: &'h [u8],
-    steps: Steps,
-}
-
-impl<'r, 'h> CaptureMatches<'r, 'h> {
-    pub(crate) fn new(regex: &'r Regex, hay: &'h [u8]) -> Self {
-        CaptureMatches { regex, hay, steps: Steps { at: 0, last: None } }
-    }
-}
-
-impl<'h> Iterator for CaptureMatches<'_, 'h> {
-    type Item = Captures<'h>;
-
-    fn next(&mut self) -> Option<Captures<'h>> {
-        let (regex, hay) = (self.regex, self.hay);
-        self.steps.next(hay.len(), |at| regex.captures_at(hay, at), |c| (c.slots[0], c.slots[1]))
-    }
-}
-
-/// What is between matches, in at most so many pieces.
+/// What is between matches, in as many pieces at most as the limit.
+#[derive(Debug)]
 pub struct Split<'r, 'h> {
     matches: Matches<'r, 'h>,
     at: usize,
@@ -97,3 +103,5 @@ impl<'h> Iterator for Split<'_, 'h> {
         Some(&hay[from..to])
     }
 }
+
+impl std::iter::FusedIterator for Split<'_, '_> {}

@@ -1,42 +1,50 @@
-//! A pattern that threads share, and the handle that each thread makes of it.
+//! Patterns that threads share, and the handle that each thread makes of them.
 use crate::sys::{Handle, Options};
 use crate::Error;
+use std::any::Any;
 use std::cell::RefCell;
 use std::collections::HashMap;
+use std::fmt;
+use std::marker::PhantomData;
 use std::sync::atomic::{AtomicU64, Ordering};
 use std::sync::{Arc, Weak};
 
 static NEXT: AtomicU64 = AtomicU64::new(0);
 
+/// A handle, and a token that the patterns are still there.
+type Kept = (Weak<()>, Box<dyn Any>);
+
 thread_local! {
     // The handles that this thread has made and that no call uses now.
-    static HANDLES: RefCell<HashMap<u64, (Weak<Shared>, Handle)>> = RefCell::new(HashMap::new());
+    static HANDLES: RefCell<HashMap<u64, Kept>> = RefCell::new(HashMap::new());
 }
 
-/// What is the same on each thread.
-#[derive(Debug)]
-pub struct Shared {
+/// What is the same on each thread, and makes handles of the type `H`.
+pub struct Shared<H> {
     id: u64,
-    pub pattern: String,
-    options: Options,
-    pub slots: usize,
+    alive: Arc<()>,
+    pub patterns: Vec<String>,
+    pub options: Options,
+    made: PhantomData<fn() -> H>,
 }
 
-impl Shared {
-    pub fn new(pattern: &str, options: &Options) -> Result<Arc<Shared>, Error> {
-        let mut handle = Handle::new(pattern, options)?;
-        let made = Arc::new(Shared {
-            id: NEXT.fetch_add(1, Ordering::Relaxed),
-            pattern: pattern.to_owned(),
-            options: *options,
-            slots: handle.slot_count(),
-        });
+impl<H> fmt::Debug for Shared<H> {
+    fn fmt(&self, f: &mut fmt::Formatter<'_>) -> fmt::Result {
+        f.debug_list().entries(&self.patterns).finish()
+    }
+}
+
+impl<H: Handle> Shared<H> {
+    pub fn new(patterns: Vec<String>, options: &Options) -> Result<Arc<Shared<H>>, Error> {
+        let handle = H::new(&patterns, options)?;
+        let id = NEXT.fetch_add(1, Ordering::Relaxed);
+        let made = Shared { id, alive: Arc::new(()), patterns, options: *options, made: PhantomData };
         made.keep(handle);
-        Ok(made)
+        Ok(Arc::new(made))
     }
 
-    fn keep(self: &Arc<Self>, handle: Handle) {
-        let kept = (Arc::downgrade(self), handle);
+    fn keep(&self, handle: H) {
+        let kept: Kept = (Arc::downgrade(&self.alive), Box::new(handle));
         let _ = HANDLES.try_with(|all| all.borrow_mut().insert(self.id, kept));
     }
 
@@ -44,15 +52,15 @@ impl Shared {
     ///
     /// # Panics
     ///
-    /// If it cannot be made, as memory is refused: the pattern has been compiled before.
-    pub fn with<R>(self: &Arc<Self>, call: impl FnOnce(&mut Handle) -> R) -> R {
+    /// If it cannot be made, as memory is refused: the patterns have been compiled before.
+    pub fn with<R>(&self, call: impl FnOnce(&mut H) -> R) -> R {
         let kept = HANDLES.try_with(|all| all.borrow_mut().remove(&self.id)).ok().flatten();
-        let mut handle = match kept {
-            Some((_, handle)) => handle,
-            None => {
+        let mut handle = match kept.map(|(_, handle)| handle.downcast::<H>()) {
+            Some(Ok(handle)) => *handle,
+            _ => {
                 // Those of patterns that other threads have dropped.
-                let _ = HANDLES.try_with(|all| all.borrow_mut().retain(|_, (shared, _)| shared.strong_count() > 0));
-                Handle::new(&self.pattern, &self.options).expect("memory for a pattern that was compiled before")
+                let _ = HANDLES.try_with(|all| all.borrow_mut().retain(|_, (alive, _)| alive.strong_count() > 0));
+                H::new(&self.patterns, &self.options).expect("memory for patterns that were compiled before")
             }
         };
         let said = call(&mut handle);
@@ -61,7 +69,7 @@ impl Shared {
     }
 }
 
-impl Drop for Shared {
+impl<H> Drop for Shared<H> {
     fn drop(&mut self) {
         let _ = HANDLES.try_with(|all| all.borrow_mut().remove(&self.id));
     }

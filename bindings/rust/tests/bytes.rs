@@ -1,4 +1,4 @@
-use nfa_engines::{Error, NoExpand, Regex, RegexBuilder};
+use nfa_engines::{escape, Error, NoExpand, Regex, RegexBuilder, RegexSet, RegexSetBuilder, Replacer};
 
 fn spans(pattern: &str, hay: &[u8]) -> Vec<(usize, usize)> {
     Regex::new(pattern).unwrap().find_iter(hay).map(|m| (m.start(), m.end())).collect()
@@ -43,6 +43,37 @@ fn groups() {
 }
 
 #[test]
+fn names() {
+    let regex = Regex::new("(?P<a>x)(y)(?<bc>z)").unwrap();
+    assert_eq!(regex.capture_names().collect::<Vec<_>>(), [None, Some("a"), None, Some("bc")]);
+    assert_eq!((regex.capture_index("bc"), regex.capture_index("d")), (Some(3), None));
+    assert_eq!(Regex::new("a").unwrap().capture_names().collect::<Vec<_>>(), [None]);
+    assert_eq!((regex.to_string(), "x".parse::<Regex>().unwrap().is_match(b"x")), (regex.as_str().to_owned(), true));
+}
+
+#[test]
+fn sets() {
+    let set = RegexSet::new(["[a-z]+", "[0-9]+", "foo"]).unwrap();
+    let found = set.matches(b"a foo");
+    assert_eq!((found.iter().collect::<Vec<_>>(), found.len()), (vec![0, 2], 3));
+    assert!(found.matched_any() && !found.matched_all() && found.matched(2) && !found.matched(1));
+    assert_eq!(found.into_iter().rev().collect::<Vec<_>>(), [2, 0]);
+    assert!(set.is_match(b"-1") && !set.is_match(b"-") && !set.matches_at(b"foo", 3).matched_any());
+    assert_eq!((set.len(), set.patterns()[2].as_str()), (3, "foo"));
+    assert!(RegexSet::empty().is_empty() && !RegexSet::empty().is_match(b""));
+    let wrong = RegexSet::new(["a", "("]).unwrap_err();
+    assert!(matches!(wrong, Error::Pattern(message) if message.starts_with("pattern 1, at 0..1: ")));
+    let both = RegexSetBuilder::new(["A", "é"]).case_insensitive(true).build().unwrap();
+    assert!(both.matches("aÉ".as_bytes()).matched_all());
+}
+
+#[test]
+fn escapes() {
+    assert_eq!((escape("a.b*é"), escape("")), (r"a\.b\*é".to_owned(), String::new()));
+    assert_eq!(Regex::new(&escape("x.y")).unwrap().find(b"xzy x.y").unwrap().range(), 4..7);
+}
+
+#[test]
 fn splits() {
     assert_eq!(pieces(",", "a,b,,c", 0), ["a", "b", "", "c"]);
     assert_eq!(pieces(",", "a,b,,c", 2), ["a", "b,,c"]);
@@ -61,6 +92,8 @@ fn replaces() {
     assert_eq!(regex.replace_all(b"x1", |groups: &nfa_engines::Captures| groups[1].to_ascii_uppercase()), &b"X"[..]);
     assert!(matches!(regex.replace_all(b"none", "$1"), std::borrow::Cow::Borrowed(b"none")));
     assert_eq!(Regex::new("x*").unwrap().replace_all(b"axb", "-"), &b"-a-b-"[..]);
+    let mut with = "$b";
+    assert_eq!(regex.replace(b"x1", with.by_ref()), regex.replace_all(b"x1", &String::from(with)));
 }
 
 #[test]

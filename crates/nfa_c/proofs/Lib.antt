@@ -1,2 +1,4 @@
 pub mod PartsSteps
+pub mod RegexSlotSteps
+pub mod SetSlotSteps
 pub mod SlotSteps

@@ -27,11 +27,19 @@ memory_code = negsuc 2
 abbrev pub utf8_code : ℤ
 utf8_code = negsuc 3
 
--- the code of a failure; the last is that the text is not a pattern, or is too large
+-- a text is not a pattern, or is too large
+abbrev pub pattern_code : ℤ
+pattern_code = negsuc 4
+
+-- a text is not a template of the regex
+abbrev pub template_code : ℤ
+template_code = negsuc 6
+
+-- the code of a failure
 abbrev pub failure_code : Failure → ℤ
 failure_code failure.Memory = memory_code
 failure_code failure.Utf8 = utf8_code
-failure_code (failure.Pattern error) = negsuc 4
+failure_code (failure.Pattern error) = pattern_code
 
 -- the range is one of the haystack
 abbrev pub InRange : List ℕ → ℕ → ℕ → Type 0
@@ -63,6 +71,11 @@ failure_text (failure.Pattern error) = only_pattern_text error
 -- the bytes over the first old ones, as far as there is room
 abbrev pub over : List ℕ → List ℕ → List ℕ
 over bytes old = take (length old) bytes ++ drop (length bytes) old
+
+-- the bytes have this count, and were written over the first old ones, as far as there is room
+pub record IsWritten (bytes : List ℕ) (count : ℕ) (old new : List ℕ) : Type 0 where
+  pub count_is : count ≡ length bytes
+  pub bytes_are : new ≡ over bytes old
 
 -- the message says why no regex is made of the text, and has `count` bytes
 pub record TellsWhy (b : Builder) (text : List ℕ) (count : ℕ) (old new : List ℕ) : Type 0 where

@@ -1,4 +1,9 @@
 pub mod Answers
 pub mod Codes
 pub mod Held
+pub mod Names
 pub mod Options
+pub mod Places
+pub mod Rewrites
+pub mod Sets
+pub mod Texts

@@ -1,7 +1,8 @@
 -- The builder that the options of a C program ask for.
 use Rattle.std.specs.Prelude.{Bool, None, Some, bit_and, if◌then◌else◌, not, ℕ, ◌==◌}
 use Rattle.regex_syntax.specs.Verdict.{default_config}
-use Rattle.nfa_meta.specs.Built.{default_settings}
+use Rattle.nfa_compiler.specs.Written.{syntax_of}
+use Rattle.nfa_meta.specs.Built.{compiler_of, default_settings}
 use Rattle.nfa_meta.specs.declared.builder.Builder.{Builder}
 use Rattle.nfa_meta.specs.declared.builder.Config.{Config}
 use Rattle.regex_syntax.specs.declared.Config.{Config as Syntax}
@@ -38,8 +39,14 @@ config_in o = record {
   hybrid = not (has_flag o.flags 512);
   hybrid_cache_capacity = or_default o.dfa_capacity default_settings.hybrid_cache_capacity;
   backtrack_visited_capacity = if o.backtrack_capacity == 0 then None else Some o.backtrack_capacity;
+  onepass = default_settings.onepass;
+  onepass_size_limit = default_settings.onepass_size_limit;
 }
 
 -- the builder of both
 abbrev pub builder_in : NfaOptions → Builder
 builder_in o = record { config = config_in o; syntax = syntax_in o }
+
+-- the syntax that its compiler reads patterns by
+abbrev pub reading_in : NfaOptions → Syntax
+reading_in o = syntax_of (compiler_of (builder_in o))

@@ -28,6 +28,10 @@ pub const UTF8: i32 = -4;
 /// The text is not a pattern, or the pattern exceeds the size limit.
 pub const PATTERN: i32 = -5;
 
+/// A text is not a template: it names a group that the regex does not have, or a brace is not closed. The code between
+/// is one of the inline functions of `nfa.h`.
+pub const TEMPLATE: i32 = -7;
+
 /// The reason why no regex was made of a text.
 #[derive(Drop)]
 pub enum Failure {

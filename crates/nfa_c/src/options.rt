@@ -1,6 +1,6 @@
 //! The settings of a regex as C gives them.
 ghost use Rattle.std.specs.Prelude.{◌≡◌};
-ghost use Rattle.nfa_c.specs.Options.{builder_in, config_in, has_flag, or_default, syntax_in};
+ghost use Rattle.nfa_c.specs.Options.{builder_in, config_in, has_flag, or_default, reading_in, syntax_in};
 
 use nfa_compiler::Flags;
 use nfa_meta::{Builder, Config, Syntax};
@@ -100,6 +100,8 @@ fn config(options: &NfaOptions) -> Config
         hybrid: !has(options.flags, NO_DFA),
         hybrid_cache_capacity: or_default(options.dfa_capacity, default.hybrid_cache_capacity),
         backtrack_visited_capacity,
+        onepass: default.onepass,
+        onepass_size_limit: default.onepass_size_limit,
     }
 }
 
@@ -110,5 +112,15 @@ pub(crate) fn builder(options: &NfaOptions) -> Builder
     Builder {
         config: config(options),
         syntax: syntax(options),
+    }
+}
+
+/// Returns the syntax that the compiler of these settings reads patterns by.
+pub(crate) fn reading(options: &NfaOptions) -> Syntax
+    ensures { result ≡ reading_in options.now }
+{
+    Syntax {
+        utf8: config(options).utf8,
+        ..syntax(options)
     }
 }

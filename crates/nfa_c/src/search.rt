@@ -20,7 +20,7 @@ pub struct NfaMatch {
 }
 
 /// Returns the input of a search, if the range is one of the haystack.
-fn input_of(haystack: &[u8], start: usize, end: usize) -> Option<Input<'_>>
+pub(crate) fn input_of(haystack: &[u8], start: usize, end: usize) -> Option<Input<'_>>
     ensures input { IfSome result (λ input. search_of input ≡ search_in haystack.now start end) }
     ensures range { InRange haystack.now start end → IsSome result }
     ensures within { IfSome result (λ input. InRange haystack.now start end) }

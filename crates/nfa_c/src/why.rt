@@ -1,11 +1,12 @@
 //! Why a text is no pattern, in words.
 ghost use Rattle.std.specs.Prelude.{IfOk, length, string_bytes, ◌≡◌, ◌≢◌};
-ghost use Rattle.nfa_c.specs.Codes.{TellsWhy, failure_text, over};
+ghost use Rattle.nfa_c.specs.Codes.{TellsWhy, failure_text};
 ghost use Rattle.nfa_c.specs.Options.{builder_in};
 
 use crate::codes::Failure;
 use crate::compile::build;
 use crate::options::{self, NfaOptions};
+use crate::room::write_over;
 use nfa_compiler::OnlyPattern;
 use std::alloc::{AllocError, Global};
 
@@ -20,18 +21,6 @@ fn words(alloc: Global, failure: Failure) -> Result<String, AllocError>
             let only = OnlyPattern(error);
             format!(in alloc; "{only}")
         }
-    }
-}
-
-/// Writes the bytes over the first ones, as far as there is room.
-fn write_over(bytes: &[u8], room: &mut [u8])
-    ensures { room.new ≡ over bytes.now room.old }
-{
-    if bytes.len() <= room.len() {
-        room[..bytes.len()].copy_from_slice(bytes);
-    } else {
-        let fits = &bytes[..room.len()];
-        room.copy_from_slice(fits);
     }
 }
 

@@ -19,7 +19,8 @@ use denote.Triple.Entry.{alive}
 use denote.Triple.Walked.{Stays, stay_dropped, walk_of}
 use Rattle.core.proofs.alloc.Calls.{Goes-blank, handle_tells}
 use Rattle.std.proofs.raw_atomic.Walks.{proved_at, leaves}
-use Rattle.nfa_c.proofs.SlotSteps.{R, Z, Slot, al, word, both, both_good, inside, slot_out, parts_in}
+use Rattle.nfa_c.proofs.RegexSlotSteps.{R, Slot, slot_out}
+use Rattle.nfa_c.proofs.SlotSteps.{Z, al, word, both, both_good, inside, parts_in}
 use Rattle.nfa_c.specs.contracts.slot.Slot.into_parts.{ended, clauses}
 use Rattle.nfa_c.specs.contracts.slot.Slot.into_parts.Key.{name as #self}
 use Rattle.nfa_c.proofs.slot.Slot.into_parts.Statement.{statement}
@@ -53,7 +54,7 @@ into_parts_spec 𝓤 𝓛 𝓜 𝓡 wired =
     enter ! 𝓣.C 𝓣.Λ fn us Post $ alloc_all ! (λ l. pass_all ! refl ((tt, (tt, tt)), (fits, tt)) $
     sets ! (of_opd ! (get_in ! (fld ! refl (stop !)) (sub ! 0 refl (whole !)))) refl (tt, tt) $
     sets ! (agg ! (and_then ! (get ! refl) (and_then ! (get ! refl) (no_more !)))) refl (both_good b o h fits) $
-    parts_in ! b o h a x $ use0 𝓛 (raw (fact 𝓤 Told)) (fact_i 𝓤 Told (emp 𝓤) is) $
+    parts_in R ! b o h a x $ use0 𝓛 (raw (fact 𝓤 Told)) (fact_i 𝓤 Told (emp 𝓤) is) $
     nothing ! $ nothing ! $ fjoin ! $ nothing ! $ fjoin ! $
     returns ! (look_at ! 0 refl) $ free_all ! refl $ keep ! (4 ∷ 0 ∷ 2 ∷ 1 ∷ []) $
     by ! (leaves 𝓛 ended hs c z (both (vptr b o) h) (record { block = block_ptr b o; alloc = a; value = x })

@@ -15,7 +15,8 @@ use denote.Steps.{nothing}
 use denote.Triple.Entry.{alive}
 use denote.Triple.Walked.{walk_of}
 use Rattle.std.proofs.raw_atomic.Walks.{proved, leaves}
-use Rattle.nfa_c.proofs.SlotSteps.{R, word, slot_in}
+use Rattle.nfa_c.proofs.RegexSlotSteps.{R, slot_in}
+use Rattle.nfa_c.proofs.SlotSteps.{word}
 use Rattle.nfa_c.specs.contracts.slot.Slot.none.{ended, clauses}
 use Rattle.nfa_c.specs.contracts.slot.Slot.none.Key.{name as #self}
 use Rattle.nfa_c.proofs.slot.Slot.none.Statement.{statement}

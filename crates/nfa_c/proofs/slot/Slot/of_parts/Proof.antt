@@ -19,7 +19,8 @@ use denote.Triple.Entry.{alive}
 use denote.Triple.Walked.{Stays, stay_dropped, walk_of}
 use Rattle.core.proofs.alloc.Calls.{Goes-blank}
 use Rattle.std.proofs.raw_atomic.Walks.{proved_at, leaves}
-use Rattle.nfa_c.proofs.SlotSteps.{R, Parts, word, both, both_good, parts_out, slot_in}
+use Rattle.nfa_c.proofs.RegexSlotSteps.{R, slot_in}
+use Rattle.nfa_c.proofs.SlotSteps.{Parts, word, both, both_good, parts_out}
 use Rattle.nfa_c.specs.contracts.slot.Slot.of_parts.{ended, clauses}
 use Rattle.nfa_c.specs.contracts.slot.Slot.of_parts.Key.{name as #self}
 use Rattle.nfa_c.proofs.slot.Slot.of_parts.Statement.{statement}
@@ -28,17 +29,17 @@ use Rattle.nfa_c.proofs.slot.Slot.of_parts.Code as code
 pub of_parts_spec : {M : Type 1} → statement M
 of_parts_spec 𝓤 𝓛 𝓜 𝓡 wired =
     let H = 𝓛.H in let 𝓣 = tables 𝓤 H 𝓜 𝓡 𝓡.env in let c = clauses 𝓛 𝓜.mem 𝓡.returns in let fn = code.function in
-    let hs : Stays ended.signature.params ended.kept = (stay_dropped (plain (λ _. Parts)) yes, tt) in
-    proved_at 𝓛 ended hs c 𝓜 𝓡 (Goes-blank 𝓛 0 (plain (λ _. Parts)) yes (λ κs x f. tt), tt)
+    let hs : Stays ended.signature.params ended.kept = (stay_dropped (plain (λ _. Parts R)) yes, tt) in
+    proved_at 𝓛 ended hs c 𝓜 𝓡 (Goes-blank 𝓛 0 (plain (λ _. Parts R)) yes (λ κs x f. tt), tt)
     #self fn (code.unfolded 𝓤 H 𝓜 𝓡 wired) (λ z are.
     let κs = z.0.0 in let qs = z.0.1 in let v = z.0.3.0 in
     let Post : Val → SProp 𝓤 = (walk_of 𝓛 ended hs c).post z in
     let Run : List Val → SProp 𝓤 = λ ws. WpFn 𝓤 H 𝓣.C 𝓣.Λ fn ws Post in
     let xs : Option R.Denot = Some v.value in let Told : Type 0 = xs ≡ xs in
-    qed 𝓛 ((raw (alive 𝓛 ended.signature κs qs) ⊛ ‵ (fsep (Parts.own_val v z.0.4.0) ftrue))
+    qed 𝓛 ((raw (alive 𝓛 ended.signature κs qs) ⊛ ‵ (fsep ((Parts R).own_val v z.0.4.0) ftrue))
     ∷ raw ((c κs z.0.3).requires z.1) ∷ []) ∵
     split ! $ move ! (1 ∷ []) $ fsplit ! $
-    parts_out ! v z.0.4.0 (λ b o h e ws fits. let w : Val = both (vptr b o) h in
+    parts_out R ! v z.0.4.0 (λ b o h e ws fits. let w : Val = both (vptr b o) h in
     suffices ! (Run (w ∷ [])) (subst (λ (us : List Val). ent 𝓤 (Run (w ∷ [])) (Run us)) (sym (λ i. ws i ++ []))
     (id⊢ 𝓤 (Run (w ∷ [])))) $
     enter ! 𝓣.C 𝓣.Λ fn (w ∷ []) Post $ alloc_all ! (λ l. pass_all ! refl (both_good b o h fits, tt) $

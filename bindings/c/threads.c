@@ -1,0 +1,42 @@
+/* Two threads search with a clone each, which the main thread makes and frees. Prints "threads: passed". */
+#include "nfa.h"
+#include <pthread.h>
+#include <stdio.h>
+
+static const char hay[] = "foo12 a bar7 - baz";
+
+/* Finds all matches many times, and leaves null if there are as many as there should be. */
+static void *search(void *argument) {
+    nfa_regex *re = (nfa_regex *)argument;
+    for (int round = 0; round < 200; round++) {
+        nfa_iter iter = NFA_ITER_INIT;
+        size_t slots[4], count = 0;
+        while (nfa_iter_next_captures(&iter, re, hay, sizeof hay - 1, slots, 4) == NFA_FOUND)
+            count++;
+        if (count != 4)
+            return argument;
+    }
+    return NULL;
+}
+
+int main(void) {
+    nfa_regex re = NFA_REGEX_INIT, clones[2] = {NFA_REGEX_INIT, NFA_REGEX_INIT};
+    pthread_t threads[2];
+    void *wrong = NULL;
+    if (nfa_compile(&re, "([a-z]+)[0-9]*", 14, NULL, NULL) != NFA_OK)
+        return 1;
+    for (int k = 0; k < 2; k++)
+        if (nfa_clone(&re, &clones[k]) != NFA_OK || pthread_create(&threads[k], NULL, search, &clones[k]) != 0)
+            return 1;
+    if (search(&re) != NULL)
+        return 1;
+    for (int k = 0; k < 2; k++) {
+        pthread_join(threads[k], &wrong);
+        nfa_free(&clones[k]);
+        if (wrong != NULL)
+            return 1;
+    }
+    nfa_free(&re);
+    printf("threads: passed\n");
+    return 0;
+}

@@ -1,0 +1,39 @@
+-- `none` owns nothing, at the null pointer.
+use Rattle.std.proofs.Common.{◌≡◌, [], ◌∷◌, refl, lit<}
+use Rattle.std.specs.Prelude.{Option, None}
+use mir.Val.{Val, vnull}
+use base.Logic.{SProp, emp}
+use base.Fml.{ftrue}
+use types.Kit.{‵, raw, ◌⊛◌, ◌$◌, ◌∵◌, !, qed, by, keep, split, use0}
+use types.Run.{lit, no_more, and_then, returns, enter}
+use types.ByLocal.{alloc_all, pass_all, free_all, look_at, sets}
+use types.Part.{agg}
+use contract.Running.{tables}
+use contract.Monad.{fact, fact_i}
+use denote.RawPtr.{null_ptr}
+use denote.Steps.{nothing}
+use denote.Triple.Entry.{alive}
+use denote.Triple.Walked.{walk_of}
+use Rattle.std.proofs.raw_atomic.Walks.{proved, leaves}
+use Rattle.nfa_c.proofs.SetSlotSteps.{R, slot_in}
+use Rattle.nfa_c.proofs.SlotSteps.{word}
+use Rattle.nfa_c.specs.contracts.set_slot.SetSlot.none.{ended, clauses}
+use Rattle.nfa_c.specs.contracts.set_slot.SetSlot.none.Key.{name as #self}
+use Rattle.nfa_c.proofs.set_slot.SetSlot.none.Statement.{statement}
+use Rattle.nfa_c.proofs.set_slot.SetSlot.none.Code as code
+
+pub none_spec : {M : Type 1} → statement M
+none_spec 𝓤 𝓛 𝓜 𝓡 wired =
+    let H = 𝓛.H in let 𝓣 = tables 𝓤 H 𝓜 𝓡 𝓡.env in let c = clauses 𝓛 𝓜.mem 𝓡.returns in
+    proved 𝓛 ended tt c 𝓜 𝓡 tt #self code.function (code.unfolded 𝓤 H 𝓜 𝓡 wired) (λ κs. tt) (λ κs. tt)
+    (λ κs qs bounds a gh are.
+    let y : (walk_of 𝓛 ended tt c).Ghost = ((κs, qs, bounds, a, tt), gh) in
+    let Post : Val → SProp 𝓤 = (walk_of 𝓛 ended tt c).post y in
+    let Told : Type 0 = ◌≡◌ {A = Option R.Denot} None None in
+    qed 𝓛 ((raw (alive 𝓛 ended.signature κs qs) ⊛ ‵ ftrue) ∷ raw ((c κs a).requires gh) ∷ []) ∵
+    split ! $ keep ! (0 ∷ []) $ enter ! 𝓣.C 𝓣.Λ code.function [] Post $ alloc_all ! (λ l. pass_all ! refl tt $
+    sets ! (agg ! (and_then ! (lit ! tt) (no_more !))) refl (tt, (record { fits = lit< tt }, tt)) $
+    nothing ! $ slot_in ! null_ptr None $
+    use0 𝓛 (raw (fact 𝓤 Told)) (fact_i 𝓤 Told (emp 𝓤) refl) $ nothing ! $
+    returns ! (look_at ! 0 refl) $ free_all ! refl $ keep ! (3 ∷ 0 ∷ 2 ∷ 1 ∷ []) $
+    by ! (leaves 𝓛 ended tt c y (word vnull) (record { at = null_ptr; value = None }) tt tt)))
