@@ -12,6 +12,7 @@ mod lines;
 mod rewrites;
 mod samples;
 mod sets;
+mod starts;
 mod templates;
 mod texts;
 mod windows;
