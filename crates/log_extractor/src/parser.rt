@@ -91,7 +91,8 @@ impl<'p> Parser<'p> {
     {
         laws::searches_find_texts();
         laws::groups_are_those_of_texts();
-        self.regex.search_captures(&Input::new(line), &mut self.captures);
+        self.regex
+            .search_captures(&Input::new(line), &mut self.captures);
         let fields = cut_fields(self.alloc, line, &self.captures, &self.columns)?;
         Ok(fields)
     }
