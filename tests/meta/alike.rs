@@ -168,5 +168,5 @@ fn expect_alike(rt: &impl TestRuntime, first: u64, rounds: u64) -> Result<(), Fa
 
 #[test]
 fn random_patterns_are_searched_alike(rt: HostRuntime) -> Result<(), Fail> {
-    expect_alike(&rt, 1, 150)
+    expect_alike(&rt, 1, 60)
 }
