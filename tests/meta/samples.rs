@@ -83,6 +83,7 @@ fn expect_same_list(
     assert_eq!(rt; found.as_slice(), wanted.as_slice(), "{input:?}");
     let found = regex.find_all(rt.alloc(), input)?;
     assert_eq!(rt; found.as_slice(), wanted.as_slice(), "{input:?}");
+    assert_eq!(rt; regex.count(input), wanted.len(), "{input:?}");
     Ok(())
 }
 

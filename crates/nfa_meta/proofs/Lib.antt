@@ -1,5 +1,6 @@
 pub mod AnchoredLemmas
 pub mod CaughtLemmas
+pub mod CountLemmas
 pub mod FirstEndLemmas
 pub mod GapLemmas
 pub mod GoesOnLemmas

@@ -1,6 +1,6 @@
 -- What a pattern that is written out finds in a text, as functions of the two. A pattern here is what the grammar reads
 -- in byte mode; a text that is not a pattern finds nothing.
-use Rattle.std.specs.Prelude.{◌≡◌, false, Bool, List, [], ◌∷◌, drop, Option, chars, is_some, option_and_then, ℕ}
+use Rattle.std.specs.Prelude.{◌≡◌, ◌+◌, ◌<◌, ◌≤◌, false, Bool, List, [], ◌∷◌, drop, length, take, Option, IfNone, IfSome, chars, is_some, option_and_then, ℕ}
 use Rattle.std.specs.Option.{option_map_or}
 use Rattle.nfa_compiler.specs.Common.{Automaton, group_named, is_utf8_empty, Span, Match, find, find_all, read, FindsFromAnyStart, IsCompiled, written_span, byte_syntax}
 
@@ -30,3 +30,15 @@ pub record IsOfPattern (pattern : List ℕ) (nfa : Automaton) : Type 0 where
   pub compiled : IsCompiled byte_syntax (pattern ∷ []) nfa
   pub anywhere : is_utf8_empty nfa ≡ false
   pub free : FindsFromAnyStart nfa
+
+-- the bytes stand in the text from this place on
+pub record Stands (bytes text : List ℕ) (place : ℕ) : Type 0 where
+  pub inside : place ≤ length text
+  pub are : take (length bytes) (drop place text) ≡ bytes
+
+-- the match is where the bytes stand first in the text; there is none if they stand nowhere
+pub record IsFirstPlace (bytes text : List ℕ) (found : Option Match) : Type 0 where
+  pub stands : IfSome found (λ m. Stands bytes text m.start)
+  pub end : IfSome found (λ m. m.trace.end ≡ m.start + length bytes)
+  pub first : IfSome found (λ m. (place : ℕ) → place < m.start → ¬ (Stands bytes text place))
+  pub none : IfNone found ((place : ℕ) → ¬ (Stands bytes text place))

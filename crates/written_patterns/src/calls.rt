@@ -17,7 +17,9 @@ ghost use Rattle.nfa_engines.specs.Paths.{IsAnswer, IsBoolAnswer, IsFindAnswer};
 ghost use Rattle.nfa_engines.specs.Search.{whole};
 ghost use Rattle.nfa_engines.specs.Slots.{named_span};
 ghost use Rattle.nfa_compiler.specs.Patterns.{found_by};
-ghost use Rattle.written_patterns.specs.Patterns.{IsOfPattern, all_matches, first_match, has_match, named_span_in};
+ghost use Rattle.regex_syntax.specs.Verdict.{ReadsAsText};
+ghost use Rattle.written_patterns.specs.Patterns.{IsFirstPlace, IsOfPattern, all_matches, first_match, has_match};
+ghost use Rattle.written_patterns.specs.Patterns.{named_span_in};
 
 use nfa_compiler::{CompileError, Compiler, Config};
 use nfa_engines::{Captures, Match, NFA};
@@ -67,4 +69,11 @@ pub fn named_group_of_pattern(
     requires room { length captures.now.slots ≡ slot_count nfa.now.groups }
     requires answer { IsAnswer nfa.now LeftmostFirst false (whole text.now) captures.now.pattern captures.now.slots }
     ensures { named_span captures.now name.now ≡ named_span_in pattern.now name.now text.now }
+{}
+
+/// The pattern that `nfa_meta::escape` makes of a text finds where the text stands first, and nothing if it stands
+/// nowhere. [`match_of_pattern`] says the same of a search.
+pub fn escaped_text_finds_itself(text: &str, escaped: &str, haystack: &[u8])
+    requires escaped { ReadsAsText escaped.now text.now }
+    ensures { IsFirstPlace text.now haystack.now (first_match escaped.now haystack.now) }
 {}
