@@ -72,9 +72,13 @@ is_special byte = (byte == quote) || ((byte == comma) || ((byte == line_feed) ||
 abbrev pub needs_quotes : List ℕ → Bool
 needs_quotes text = (length text == 0) || list_any is_special text
 
+-- the byte, twice if it is a quote
+abbrev pub doubled_byte : ℕ → List ℕ
+doubled_byte byte = if byte == quote then (quote ∷ quote ∷ []) else (byte ∷ [])
+
 -- the text, with each quote doubled
 abbrev pub doubled : List ℕ → List ℕ
-doubled text = flat_map (λ byte. if byte == quote then (quote ∷ quote ∷ []) else (byte ∷ [])) text
+doubled text = flat_map doubled_byte text
 
 -- the text in quotes
 abbrev pub quoted_text : List ℕ → List ℕ

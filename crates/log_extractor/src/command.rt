@@ -43,7 +43,7 @@ with status 0.
 The default pattern is of lines such as `2026-11-22 14:03:07 ERROR disk full`. The patterns of the formats:";
 
 /// A pattern of lines, and the name of its format, if it has one.
-#[derive(Clone, Copy, Debug, Drop)]
+#[derive(Clone, Copy)]
 pub struct Given<'w> {
     pub format: Option<&'w str>,
     pub pattern: &'w str,
@@ -93,19 +93,27 @@ pub fn help_below(alloc: Global) -> Result<String, AllocError> {
 /// Reads the split arguments, the first of which is the name of the program. The help ends with `below`. The only error
 /// is that allocation failed.
 pub fn parse<'w>(alloc: Global, below: &'w str, words: &'w [&'w str]) -> Result<Command<'w>> {
+    let mut args = Vec::new(alloc);
+    push_arguments(alloc, &mut args)?;
     let command = clap::Command::new(alloc, "log_extractor")
         .about("Prints the fields of log lines.")
         .override_usage(USAGE)
         .after_help(below)
-        .arg(pattern_argument(alloc))?
-        .arg(format_argument(alloc))?;
-    let command = with_output(alloc, command)?
-        .arg(count_argument(alloc)?)?
-        .arg(files_argument(alloc))?;
+        .args(args)?;
     match command.try_get_matches_from(words) {
         Ok(matches) => Ok(Command::Extract(read_matches(alloc, &matches)?)),
         Err(error) => Ok(Command::Say(error)),
     }
+}
+
+/// Adds the options, in the order in which the help has them, and the files.
+fn push_arguments<'w>(alloc: Global, args: &mut Vec<Arg<'w>>) -> Result<(), AllocError> {
+    args.push(pattern_argument(alloc))?;
+    args.push(format_argument(alloc))?;
+    push_output(alloc, args)?;
+    args.push(count_argument(alloc)?)?;
+    args.push(files_argument(alloc))?;
+    Ok(())
 }
 
 /// The option with a pattern.
@@ -132,42 +140,48 @@ fn format_argument<'w>(alloc: Global) -> Arg<'w> {
 
 /// The option with the column whose values are counted.
 fn count_argument<'w>(alloc: Global) -> Result<Arg<'w>, AllocError> {
-    Arg::new(alloc, "count")
+    let arg = Arg::new(alloc, "count")
         .long("count")
         .action(ArgAction::Set)
         .value_name("COLUMN")
-        .help("Print how often each value of this column occurs, and no rows")
-        .conflicts_with("json")?
-        .conflicts_with("rejects")
+        .help("Print how often each value of this column occurs, and no rows");
+    for_rows(arg)
 }
 
 /// Adds the options that say what is printed.
-fn with_output<'w>(
-    alloc: Global,
-    command: clap::Command<'w>,
-) -> Result<clap::Command<'w>, AllocError> {
-    command
-        .arg(
-            flag(alloc, "rows")?
-                .conflicts_with("json")?
-                .conflicts_with("rejects")?
-                .help("Print no line with the names of the columns"),
-        )?
-        .arg(
-            flag(alloc, "csv")?
-                .conflicts_with("json")?
-                .conflicts_with("rejects")?
-                .help("Separate fields by commas"),
-        )?
-        .arg(
-            flag(alloc, "json")?
-                .conflicts_with("rejects")?
-                .help("Print a JSON object for each row"),
-        )?
-        .arg(flag(alloc, "rejects")?.help("Print the lines that have no row, and no rows"))?
-        .arg(flag(alloc, "line-buffered")?.help(
-            "Write the output for a line before reading on, as to a terminal",
-        ))
+fn push_output<'w>(alloc: Global, args: &mut Vec<Arg<'w>>) -> Result<(), AllocError> {
+    args.push(rows_argument(alloc)?)?;
+    args.push(csv_argument(alloc)?)?;
+    args.push(json_argument(alloc)?)?;
+    args.push(flag(alloc, "rejects")?.help("Print the lines that have no row, and no rows"))?;
+    args.push(flag(alloc, "line-buffered")?.help(
+        "Write the output for a line before reading on, as to a terminal",
+    ))?;
+    Ok(())
+}
+
+/// The option without a line of names.
+fn rows_argument<'w>(alloc: Global) -> Result<Arg<'w>, AllocError> {
+    let arg = flag(alloc, "rows")?.help("Print no line with the names of the columns");
+    for_rows(arg)
+}
+
+/// The option with commas.
+fn csv_argument<'w>(alloc: Global) -> Result<Arg<'w>, AllocError> {
+    let arg = flag(alloc, "csv")?.help("Separate fields by commas");
+    for_rows(arg)
+}
+
+/// The option with objects.
+fn json_argument<'w>(alloc: Global) -> Result<Arg<'w>, AllocError> {
+    flag(alloc, "json")?
+        .help("Print a JSON object for each row")
+        .conflicts_with("rejects")
+}
+
+/// Makes the option exclude those with objects and with rejects.
+fn for_rows<'w>(arg: Arg<'w>) -> Result<Arg<'w>, AllocError> {
+    arg.conflicts_with("json")?.conflicts_with("rejects")
 }
 
 /// The arguments that belong to no option: the files.
@@ -189,10 +203,7 @@ fn flag<'w>(alloc: Global, name: &'w str) -> Result<Arg<'w>, AllocError> {
 
 /// Returns the patterns that are given, in order. Without one it is the default pattern.
 fn patterns_of<'w>(alloc: Global, matches: &ArgMatches<'w>) -> Result<Vec<Given<'w>>> {
-    let mut words = Vec::new(alloc);
-    push_words(matches, "pattern", false, &mut words)?;
-    push_words(matches, "format", true, &mut words)?;
-    words.sort()?;
+    let words = pattern_words(alloc, matches)?;
     let mut patterns = Vec::new(alloc);
     for (_, is_format, word) in &words {
         patterns.push(given_by(*is_format, word))?;
@@ -204,6 +215,19 @@ fn patterns_of<'w>(alloc: Global, matches: &ArgMatches<'w>) -> Result<Vec<Given<
         })?;
     }
     Ok(patterns)
+}
+
+/// Returns the values of both options, in the order of the arguments: the place of each among all arguments, whether it
+/// names a format, and the value.
+fn pattern_words<'w>(
+    alloc: Global,
+    matches: &ArgMatches<'w>,
+) -> Result<Vec<(usize, bool, &'w str)>> {
+    let mut words = Vec::new(alloc);
+    push_words(matches, "pattern", false, &mut words)?;
+    push_words(matches, "format", true, &mut words)?;
+    words.sort()?;
+    Ok(words)
 }
 
 /// Adds the values of the option, each with its place among all arguments.
@@ -277,17 +301,22 @@ fn output_of(matches: &ArgMatches<'_>) -> Output {
 }
 
 fn read_matches<'w>(alloc: Global, matches: &ArgMatches<'w>) -> Result<Arguments<'w>> {
-    let mut files = Vec::new(alloc);
-    if let Some(words) = matches.get_strs("files") {
-        for word in words {
-            files.push(*word)?;
-        }
-    }
+    let patterns = patterns_of(alloc, matches)?;
+    let files = files_of(alloc, matches)?;
     Ok(Arguments {
-        patterns: patterns_of(alloc, matches)?,
+        patterns,
         output: output_of(matches),
         count: matches.get_str("count"),
         line_buffered: matches.get_flag("line-buffered"),
         files,
     })
+}
+
+/// Returns the names of the files, in order.
+fn files_of<'w>(alloc: Global, matches: &ArgMatches<'w>) -> Result<Vec<&'w str>, AllocError> {
+    let mut files = Vec::new(alloc);
+    if let Some(words) = matches.get_strs("files") {
+        files.extend_from_slice(words)?;
+    }
+    Ok(files)
 }

@@ -1,7 +1,7 @@
 //! The text of a field in a row.
 ghost use Rattle.std.specs.Prelude.{◌≡◌, ◌++◌, OnOk};
-ghost use Rattle.log_extractor.specs.Printed.{AreReadBack, HaveNoSeparator, doubled, escaped, escaped_byte, is_special};
-ghost use Rattle.log_extractor.specs.Printed.{needs_quotes, quoted_text, written};
+ghost use Rattle.log_extractor.specs.Printed.{AreReadBack, HaveNoSeparator, doubled, doubled_byte, escaped, escaped_byte};
+ghost use Rattle.log_extractor.specs.Printed.{is_special, needs_quotes, quoted_text, written};
 
 use crate::output::Form;
 use std::alloc::AllocError;
@@ -76,10 +76,18 @@ fn append_doubled(text: &[u8], out: &mut Vec<u8>) -> Result<(), AllocError>
     ensures { OnOk result (out.new.items ≡ out.old.items ++ doubled text.now) }
 {
     for byte in text {
-        if *byte == b'"' {
-            out.push(b'"')?;
-        }
-        out.push(*byte)?;
+        append_doubled_byte(*byte, out)?;
     }
+    Ok(())
+}
+
+/// Appends the byte, twice if it is a quote.
+fn append_doubled_byte(byte: u8, out: &mut Vec<u8>) -> Result<(), AllocError>
+    ensures { OnOk result (out.new.items ≡ out.old.items ++ doubled_byte byte) }
+{
+    if byte == b'"' {
+        return out.extend_from_slice(b"\"\"");
+    }
+    out.push(byte)?;
     Ok(())
 }

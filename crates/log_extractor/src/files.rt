@@ -5,7 +5,7 @@ use crate::output::{Form, Output};
 use crate::parsers::Parsers;
 use crate::report::{print_head, print_lines};
 use std::alloc::Global;
-use std::io::{BufRead, BufReader, BufWriter, IsTerminal, Write};
+use std::io::{BufRead, BufReader, BufWriter, IsTerminal, Read, Write};
 use std::{fs, io};
 use text_lines::failure::Failure;
 
@@ -71,20 +71,20 @@ fn print_to<W: Write>(
     out: &mut W,
 ) -> Result<bool, Failure> {
     let output = arguments.output;
+    if column.is_none() {
+        print_head(rt.alloc(), parsers, output, out)?;
+    }
     let mut work = Work {
         output,
         column,
         counts: no_counts(rt.alloc()),
         rows: false,
     };
-    if column.is_none() {
-        print_head(rt.alloc(), parsers, output, out)?;
-    }
     let complete = print_each(rt, parsers, &mut work, inputs_of(arguments), out)?;
     if let Some(name) = arguments.count {
         print_counted(rt, output, name, &work.counts, out)?;
     }
-    if complete && !work.rows && output != Output::Rejects {
+    if complete && !work.rows && !matches!(output, Output::Rejects) {
         let _ = eprintln!(rt; "{NO_ROW}");
     }
     Ok(complete)
@@ -125,15 +125,19 @@ fn print_each<W: Write>(
                 return Err(error);
             }
             complete = false;
-            // The status says so even if the line cannot be written.
-            let _ = if *name == "-" {
-                eprintln!(rt; "log_extractor: {error}")
-            } else {
-                eprintln!(rt; "log_extractor: {name}: {error}")
-            };
+            tell(rt, name, &error);
         }
     }
     Ok(complete)
+}
+
+/// Says why the input of this name was not read to its end. The status says so even if the line cannot be written.
+fn tell(rt: &HostRuntime, name: &str, error: &Failure) {
+    let _ = if name == "-" {
+        eprintln!(rt; "log_extractor: {error}")
+    } else {
+        eprintln!(rt; "log_extractor: {name}: {error}")
+    };
 }
 
 /// Does what is to be done with the lines of the input of this name.
@@ -144,26 +148,31 @@ fn print_named<W: Write>(
     name: &str,
     out: &mut W,
 ) -> Result<(), Failure> {
-    let alloc = rt.alloc();
     if name == "-" {
-        let Ok(mut input) = BufReader::new(alloc, rt.reader()) else {
-            return Err(Failure::Memory);
-        };
-        return work_on(alloc, parsers, work, &mut input, out);
+        return work_on(rt.alloc(), parsers, work, rt.reader(), out);
     }
     match fs::open(rt, name) {
-        Ok(file) => {
-            let Ok(mut input) = BufReader::new(alloc, file) else {
-                return Err(Failure::Memory);
-            };
-            work_on(alloc, parsers, work, &mut input, out)
-        }
+        Ok(file) => work_on(rt.alloc(), parsers, work, file, out),
         Err(error) => Err(Failure::Read(error)),
     }
 }
 
+/// Does what is to be done with the lines of this input, which is read through a buffer.
+fn work_on<R: Read + Drop, W: Write>(
+    alloc: Global,
+    parsers: &mut Parsers<'_>,
+    work: &mut Work,
+    input: R,
+    out: &mut W,
+) -> Result<(), Failure> {
+    let Ok(mut input) = BufReader::new(alloc, input) else {
+        return Err(Failure::Memory);
+    };
+    work_on_lines(alloc, parsers, work, &mut input, out)
+}
+
 /// Does what is to be done with the lines of this input.
-fn work_on<R: BufRead, W: Write>(
+fn work_on_lines<R: BufRead, W: Write>(
     alloc: Global,
     parsers: &mut Parsers<'_>,
     work: &mut Work,

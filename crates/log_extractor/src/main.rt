@@ -14,7 +14,7 @@ mod pattern;
 mod report;
 mod row;
 
-use crate::command::{Arguments, Command, help_below, labels_of, parse, split};
+use crate::command::{Arguments, Command, Given, help_below, labels_of, parse, split};
 use crate::count::column_named;
 use crate::files::{inputs_of, print_all};
 use crate::names::has_name;
@@ -26,6 +26,7 @@ use clap::Error;
 use clap::error::ErrorKind;
 use option_values::output::{IS_OUTPUT, first_output, shown_name};
 use option_values::words::{arguments, texts, words};
+use std::alloc::{AllocError, Global};
 use std::fmt::Display;
 use std::io;
 use std::process::ExitCode;
@@ -62,10 +63,15 @@ fn obey(rt: &HostRuntime, words: &[&str]) -> Result<ExitCode> {
     let below = help_below(rt.alloc())?;
     match parse(rt.alloc(), below.as_str(), &words)? {
         Command::Extract(arguments) => extract(rt, &arguments),
-        Command::Say(error) => match error.print(rt) {
-            Err(failure) if failure.kind() != io::ErrorKind::BrokenPipe => Err(failure.into()),
-            _ => Ok(ExitCode::from(status_of(&error))),
-        },
+        Command::Say(error) => say(rt, &error),
+    }
+}
+
+/// Prints the help, or what is wrong with the arguments.
+fn say(rt: &HostRuntime, error: &Error) -> Result<ExitCode> {
+    match error.print(rt) {
+        Err(failure) if failure.kind() != io::ErrorKind::BrokenPipe => Err(failure.into()),
+        _ => Ok(ExitCode::from(status_of(error))),
     }
 }
 
@@ -80,24 +86,35 @@ fn status_of(error: &Error) -> u8 {
 
 fn extract(rt: &HostRuntime, arguments: &Arguments<'_>) -> Result<ExitCode> {
     let labels = labels_of(rt.alloc(), &arguments.patterns)?;
-    let mut parsers = Vec::new(rt.alloc());
-    for (given, label) in arguments.patterns.iter().zip(&labels) {
-        match Parser::new(rt.alloc(), given.pattern) {
+    match parsers_of(rt.alloc(), &arguments.patterns, &labels)? {
+        Ok(mut parsers) => print_rows(rt, arguments, &mut parsers),
+        Err((_, PatternError::Memory)) => Err(PatternError::Memory.into()),
+        Err((_, error)) if labels.len() == 1 => Ok(ended(rt, error, MISUSED)),
+        Err((label, error)) => Ok(ended(rt, format_args!("pattern {label}: {error}"), MISUSED)),
+    }
+}
+
+/// Returns the parsers of these patterns, which have these labels, or the label of the first pattern that has none, and
+/// why. The only other error is that allocation failed.
+fn parsers_of<'p>(
+    alloc: Global,
+    patterns: &[Given<'p>],
+    labels: &'p [String],
+) -> Result<Result<Parsers<'p>, (&'p str, PatternError)>, AllocError> {
+    let mut parsers = Vec::new(alloc);
+    for (given, label) in patterns.iter().zip(labels) {
+        match Parser::new(alloc, given.pattern) {
             Ok(parser) => parsers.push(LabelledParser { label, parser })?,
-            Err(PatternError::Memory) => return Err(PatternError::Memory.into()),
-            Err(error) if labels.len() == 1 => return Ok(ended(rt, error, MISUSED)),
-            Err(error) => {
-                return Ok(ended(rt, format_args!("pattern {label}: {error}"), MISUSED));
-            }
+            Err(error) => return Ok(Err((label.as_str(), error))),
         }
     }
-    print_rows(rt, arguments, Parsers::new(rt.alloc(), parsers)?)
+    Ok(Ok(Parsers::new(alloc, parsers)?))
 }
 
 fn print_rows(
     rt: &HostRuntime,
     arguments: &Arguments<'_>,
-    mut parsers: Parsers<'_>,
+    parsers: &mut Parsers<'_>,
 ) -> Result<ExitCode> {
     if has_label_twice(parsers.names()) {
         return Ok(ended(rt, NAME_TAKEN, MISUSED));
@@ -116,7 +133,12 @@ fn print_rows(
             MISUSED,
         ));
     }
-    match print_all(rt, &mut parsers, arguments, column) {
+    status_after(print_all(rt, parsers, arguments, column))
+}
+
+/// Returns the status after all was printed. Each input was read to its end, or not, or printing failed.
+fn status_after(printed: Result<bool, Failure>) -> Result<ExitCode> {
+    match printed {
         Ok(true) => Ok(ExitCode::SUCCESS),
         Ok(false) => Ok(ExitCode::from(FAILED)),
         Err(error) if is_closed_pipe(&error) => Ok(ExitCode::SUCCESS),

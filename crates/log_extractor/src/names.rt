@@ -38,9 +38,10 @@ fn push_name(name: &String, names: &mut Vec<String>) -> Result<(), AllocError>
     ensures { OnOk result (map string_bytes names.new.items
         ≡ with_name (map string_bytes names.old.items) (string_bytes name.now)) }
 {
-    if !has_name(names, name.as_str()) {
-        names.push(name.clone()?)?;
+    if has_name(names, name.as_str()) {
+        return Ok(());
     }
+    names.push(name.clone()?)?;
     Ok(())
 }
 

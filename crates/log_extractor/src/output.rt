@@ -1,7 +1,7 @@
 //! What is printed of an input.
 
 /// How a row is written as a line.
-#[derive(Clone, Copy, Debug, PartialEq, Eq)]
+#[derive(Clone, Copy)]
 pub enum Form {
     /// Tabs between the fields, and escapes in them.
     Tabs,
@@ -10,7 +10,7 @@ pub enum Form {
 }
 
 /// What is printed of an input.
-#[derive(Clone, Copy, Debug, PartialEq, Eq)]
+#[derive(Clone, Copy)]
 pub enum Output {
     /// A line with the names of the columns, and the rows.
     Table(Form),

@@ -1,14 +1,14 @@
 //! The fields of a line.
-ghost use Rattle.std.specs.Prelude.{◌≡◌, IfOk, map, option_map};
+ghost use Rattle.std.specs.Prelude.{◌≡◌, IfOk, IfSome, map, option_map};
 ghost use Rattle.regex_search_core.specs.Search.{whole};
 ghost use Rattle.regex_search_core.specs.Slots.{group_span};
-ghost use Rattle.nfa_engines.specs.Lists.{SpansInside};
+ghost use Rattle.nfa_engines.specs.Lists.{IsSpanInside, SpansInside};
 ghost use Rattle.log_extractor.specs.Fields.{cut, fields_now};
 
 use crate::pattern::{Column, PatternError, columns, compile};
 use nfa_compiler::laws;
 use nfa_meta::Regex;
-use regex_search_core::{Captures, Input};
+use regex_search_core::{Captures, Input, Span};
 use std::alloc::{AllocError, Global};
 use std::marker::Model;
 
@@ -125,6 +125,14 @@ fn cut_field<'l>(line: &'l [u8], captures: &Captures, group: usize) -> Option<&'
     requires { SpansInside (whole line.now) captures.now }
     ensures { option_map (λ field. field.now) result ≡ cut line.now (group_span captures.now group) }
 {
-    let span = captures.get_group(group)?;
+    text_of(line, captures.get_group(group))
+}
+
+/// Returns the bytes of the span, if there is one.
+fn text_of<'l>(line: &'l [u8], span: Option<Span>) -> Option<&'l [u8]>
+    requires { IfSome span (IsSpanInside (whole line.now)) }
+    ensures { option_map (λ field. field.now) result ≡ cut line.now span }
+{
+    let span = span?;
     Some(&line[span.start..span.end])
 }

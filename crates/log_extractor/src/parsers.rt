@@ -157,8 +157,9 @@ fn label_field<'l>(
     ensures { IfOk result (λ fields. fields_now fields.items ≡ label_field several label.now) }
 {
     let mut fields = Vec::new(alloc);
-    if several {
-        fields.push(Some(label.as_bytes()))?;
+    if !several {
+        return Ok(fields);
     }
+    fields.push(Some(label.as_bytes()))?;
     Ok(fields)
 }

@@ -35,7 +35,7 @@ pub const COMBINED: &str = concat!(
 );
 
 /// A column: a group of the pattern that has a name.
-#[derive(Debug, Drop)]
+#[derive(Drop)]
 pub struct Column {
     pub group: usize,
     pub name: String,
@@ -48,7 +48,7 @@ pub enum PatternError {
     #[error("out of memory")]
     Memory,
     /// The text is not a pattern, or the pattern is too large.
-    #[error("{0}")]
+    #[error(transparent)]
     Compile(OnlyPattern),
     /// No group of the pattern has a name, so there are no columns.
     #[error("the pattern has no named group, such as (?<level>[A-Z]+)")]
@@ -129,11 +129,12 @@ fn push_named(
     ensures { OnOk result (map group_of columns.new.items
         ≡ map group_of columns.old.items ++ named_groups group (option_map string_bytes name.now ∷ [])) }
 {
-    if let Some(name) = name {
-        columns.push(Column {
-            group,
-            name: name.clone()?,
-        })?;
-    }
+    let Some(name) = name else {
+        return Ok(());
+    };
+    columns.push(Column {
+        group,
+        name: name.clone()?,
+    })?;
     Ok(())
 }

@@ -33,6 +33,10 @@ as_operand Value word = []
 as_operand Rest word = word ∷ []
 
 module _ (valued : List (Bor (List ℕ))) where
+  -- what the word after this option may be
+  abbrev pub mode_after_option : List ℕ → Mode
+  mode_after_option word = if is_one_of valued word then Value else Options
+
   -- what the word after it may be
   abbrev pub mode_next : Mode → Word → Mode
   mode_next Options word =

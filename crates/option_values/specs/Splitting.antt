@@ -26,6 +26,10 @@ flag_words flags = if bytes_eq flags (codes "-") then [] else flags ∷ []
 abbrev pub value_words : List ℕ → List (List ℕ)
 value_words value = if length value == 0 then [] else value ∷ []
 
+-- what comes after the option, with its value if that is attached
+abbrev pub mode_after_value : List ℕ → Mode
+mode_after_value value = if length value == 0 then Value else Options
+
 module _ (letter : ℕ) where
   -- whether the letter is not in the word
   abbrev pub lacks_letter : List ℕ → Bool
@@ -47,7 +51,7 @@ module _ (letter : ℕ) where
   -- what comes after them
   abbrev pub mode_after_cluster : List ℕ → Mode
   mode_after_cluster word =
-      if lacks_letter word then Options else (if length (after word) == 0 then Value else Options)
+      if lacks_letter word then Options else mode_after_value (after word)
 
   -- the words that come of one word
   abbrev pub words_of : List ℕ → Mode → List ℕ → List (List ℕ)

@@ -11,7 +11,8 @@ pub mod parted;
 pub mod words;
 
 ghost use Rattle.std.specs.Prelude.{◌≡◌, ◌++◌, ◌<◌, IfOk, OnOk, map, slice_index, true};
-ghost use Rattle.option_values.specs.Splitting.{is_cluster, mode_after, mode_after_whole, split_words, words_of};
+ghost use Rattle.option_values.specs.Splitting.{flag_words, is_cluster, mode_after, mode_after_value, mode_after_whole};
+ghost use Rattle.option_values.specs.Splitting.{split_words, value_words, words_of};
 
 use std::alloc::{AllocError, Global};
 
@@ -107,10 +108,29 @@ fn push_cluster<'w>(
         split.push(word)?;
         return Ok(Mode::Options);
     };
-    if flags != "-" {
-        split.push(flags)?;
-    }
+    push_flags(flags, split)?;
     split.push(option.short)?;
+    push_value(value, split)
+}
+
+/// Appends the letters before the option, if there are any.
+fn push_flags<'w>(flags: &'w str, split: &mut Vec<&'w str>) -> Result<(), AllocError>
+    ensures { OnOk result (map (λ word. word.now) split.new.items
+        ≡ map (λ word. word.now) split.old.items ++ flag_words flags.entry.now) }
+{
+    if flags == "-" {
+        return Ok(());
+    }
+    split.push(flags)?;
+    Ok(())
+}
+
+/// Appends the value, if it is attached, and returns what the next word may be.
+fn push_value<'w>(value: &'w str, split: &mut Vec<&'w str>) -> Result<Mode, AllocError>
+    ensures words { OnOk result (map (λ word. word.now) split.new.items
+        ≡ map (λ word. word.now) split.old.items ++ value_words value.entry.now) }
+    ensures mode { IfOk result (λ next. next ≡ mode_after_value value.entry.now) }
+{
     if value.is_empty() {
         return Ok(Mode::Value);
     }

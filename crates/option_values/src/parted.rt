@@ -1,8 +1,8 @@
 //! Options, and the words among which they stand.
 ghost use Rattle.std.specs.Prelude.{◌≡◌, ◌++◌, IfOk, OnOk};
 ghost use Rattle.std.specs.Str.{bytes_eq};
-ghost use Rattle.option_values.specs.Parting.{as_operand, as_option, is_one_of, is_option, mode_next, operands_in};
-ghost use Rattle.option_values.specs.Parting.{options_in};
+ghost use Rattle.option_values.specs.Parting.{as_operand, as_option, is_one_of, is_option, mode_after_option, mode_next};
+ghost use Rattle.option_values.specs.Parting.{operands_in, options_in};
 ghost use Rattle.option_values.specs.declared.Mode.TheVariants.{Options};
 
 use crate::Mode;
@@ -82,10 +82,17 @@ fn push_first<'w>(
         return Ok(Mode::Options);
     }
     parted.options.push(word)?;
-    if is_one_of(valued, word.bytes) {
-        return Ok(Mode::Value);
+    Ok(mode_after_option(valued, word.bytes))
+}
+
+/// Returns what the word after this option may be.
+fn mode_after_option(valued: &[&str], bytes: &[u8]) -> Mode
+    ensures { result ≡ mode_after_option valued.now bytes.now }
+{
+    if is_one_of(valued, bytes) {
+        return Mode::Value;
     }
-    Ok(Mode::Options)
+    Mode::Options
 }
 
 /// Returns whether the word begins with a hyphen, and has more bytes.

@@ -39,14 +39,22 @@ impl fmt::Display for NotText<'_> {
     /// Bytes that are not UTF-8 are shown as U+FFFD.
     fn fmt<W: fmt::Write>(&self, f: &mut fmt::Formatter<W>) -> fmt::Result {
         write!(f, "argument {} is not UTF-8: ", self.word.place)?;
-        for chunk in self.word.bytes.utf8_chunks() {
-            f.write_str(chunk.valid())?;
-            if !chunk.invalid().is_empty() {
-                f.write_str("\u{FFFD}")?;
-            }
-        }
-        Ok(())
+        write_lossy(f, self.word.bytes)
     }
+}
+
+/// Writes these bytes as text.
+fn write_lossy<W: fmt::Write>(f: &mut fmt::Formatter<W>, bytes: &[u8]) -> fmt::Result {
+    for chunk in bytes.utf8_chunks() {
+        f.write_str(chunk.valid())?;
+        f.write_str(shown_invalid(chunk.invalid()))?;
+    }
+    Ok(())
+}
+
+/// Returns what is shown of bytes that are not UTF-8.
+fn shown_invalid(bytes: &[u8]) -> &'static str {
+    if bytes.is_empty() { "" } else { "\u{FFFD}" }
 }
 
 /// Returns the arguments of the program, in order, except for the first, which is its name. The only error is that
