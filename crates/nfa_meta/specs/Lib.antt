@@ -1,5 +1,6 @@
 pub mod Built
 pub mod CapturesMatches
+pub mod CapturesSteps
 pub mod Filled
 pub mod Gaps
 pub mod GroupNames
