@@ -1,17 +1,27 @@
 -- Calls of a function that appends what comes in place of a match.
 use Rattle.std.specs.Global.{Vec}
-use Rattle.nfa_paths.proofs.Common.{Bor, MutBor, All, ◌≡◌, ◌∙◌, ℕ, List, [], ◌∷◌, ◌++◌, Result, ap, refl, slice_range, subst, sym, append_assoc, recursion_from_All, AllByRecursion, whole, Captured}
+use Rattle.nfa_paths.proofs.Common.{Bor, MutBor, All, ◌≡◌, ◌∙◌, ◌≤◌, ℕ, List, [], ◌∷◌, ◌++◌, IfOk, Err, Ok, Result, ap, arith, drop, length, refl, slice_range, subst, sym, append_assoc, recursion_from_All, AllByRecursion, whole, Captured}
+use Rattle.std.proofs.Common.{append-nil}
 use Rattle.std.proofs.lemmas.Fn.{FoldsTo-push}
 use Rattle.std.specs.Fn.{Mut}
 use Rattle.std.specs.declared.alloc.AllocError.{AllocError}
 use Rattle.nfa_search_base.specs.Common.{CapturesInside, match_in}
-use Rattle.nfa_meta.specs.Rewritten.{AppendsBy, HasRewritten, RewritesFrom, Writes, WritesForMatch, WritesLead, rewritten}
+use Rattle.nfa_choice.specs.ChoiceState.{ChoiceState}
+use Rattle.nfa_meta.specs.Filled.{IsFilled, filled_from}
+use Rattle.nfa_meta.specs.Rewritten.{AppendsBy, CallsLeft, HasRewritten, HasRewrittenSoFar, IsRewrittenBy, RewritesFrom, Writes, WritesForMatch, WritesLead, end_after, rewritten}
+use Rattle.nfa_meta.specs.Templates.{filled}
+use Rattle.nfa_meta.specs.declared.interpolate.Part.{Part}
 
 -- before, a slice and a piece, one after the other, and then more
 regrouped : (before slice piece more : List ℕ)
     → ((before ++ slice) ++ piece) ++ more ≡ before ++ (slice ++ (piece ++ more))
 regrouped before slice piece more =
     append_assoc (before ++ slice) piece more ∙ append_assoc before slice (piece ++ more)
+
+-- after captures and one more, the last match is that of the last one
+end_after-last : (from : ℕ) (cs : List Captured) (c : Captured) → end_after from (cs ++ c ∷ []) ≡ (match_in c).end
+end_after-last from [] c = refl
+end_after-last from (d ∷ cs) c = end_after-last (match_in d).end cs c
 
 module _ {F : Type 0} (g : Mut F (Bor Captured × (MutBor (Vec ℕ) × Unit {0}))
     (Result (Unit {0}) AllocError × (MutBor (Vec ℕ) × Unit {0}))) (text : List ℕ) where
@@ -52,6 +62,40 @@ module _ {F : Type 0} (g : Mut F (Bor Captured × (MutBor (Vec ℕ) × Unit {0})
         let inside = subst (AllByRecursion (CapturesInside (whole text))) is so_far.inside in
         WritesLead-last so_far.leads inside.0 w
 
+  -- before the first call
+  pub so_far-none : (f : F) (output : List ℕ) → output ≡ []
+      → HasRewrittenSoFar g text [] f (record { replacement = f; output = output }) 0
+  so_far-none f output is = record {
+    goes_on = λ more after r. subst (λ (out : List ℕ). RewritesFrom g text 0 more f out after) is r;
+    leads = WritesLead-none f;
+    ends = refl;
+    within = omega arith;
+  }
+
+  -- The calls for these captures led to f. They go on with captures c.
+  pub so_far-more : {caught : List Captured} {c : Captured} {f₀ f f' : F} {from end : ℕ} {output between : List ℕ}
+      → HasRewrittenSoFar g text caught f₀ (record { replacement = f; output = output }) from
+      → CapturesInside (whole text) c → end ≡ (match_in c).end
+      → Writes g f c (output ++ slice_range text from (match_in c).start) between f'
+      → HasRewrittenSoFar g text (caught ++ c ∷ []) f₀ (record { replacement = f'; output = between }) end
+  so_far-more {caught} {c} {f₀} {f} {f'} {from} {end} {output} {between} so_far inside ends w = record {
+    goes_on = λ more after r.
+        let others = subst (λ (e : ℕ). RewritesFrom g text e more f' between after) ends r in
+        subst (λ (cs : List Captured). RewritesFrom g text 0 cs f₀ [] after) (sym (append_assoc caught (c ∷ []) more))
+        (so_far.goes_on (c ∷ more) after (f', between, w, others));
+    leads = WritesLead-last so_far.leads inside w;
+    ends = ends ∙ sym (end_after-last 0 caught c);
+    within = let to : (match_in c).end ≤ length text = inside.inside.to in omega (arith, ends, to);
+  }
+
+  -- at the end, with the rest of the text, they are all calls
+  pub so_far-all : {caught : List Captured} {f₀ f : F} {from : ℕ} {output after : List ℕ}
+      → HasRewrittenSoFar g text caught f₀ (record { replacement = f; output = output }) from
+      → after ≡ output ++ drop from text → RewritesFrom g text 0 caught f₀ [] after
+  so_far-all {caught = caught} {f₀ = f₀} {after = after} so_far rest =
+      subst (λ (cs : List Captured). RewritesFrom g text 0 cs f₀ [] after) (append-nil caught)
+      (so_far.goes_on [] after rest)
+
   -- If each call appends what h gives for the captures, the calls append the text so rewritten.
   module _ (h : Captured → List ℕ) where
     rewritten-on : (cs : List Captured) → AllByRecursion (CapturesInside (whole text)) cs → (from : ℕ) (f : F)
@@ -73,3 +117,23 @@ module _ {F : Type 0} (g : Mut F (Bor Captured × (MutBor (Vec ℕ) × Unit {0})
         → AppendsBy g text f h → RewritesFrom g text 0 cs f [] after → after ≡ rewritten text h 0 cs
     rewritten-by cs inside f {after} appends r =
         rewritten-on cs (recursion_from_All (CapturesInside (whole text)) cs inside) 0 f [] after appends r
+
+-- If each call appends what a template gives for the captures, the text is the one that the template fills.
+rewritten-filled : (text : List ℕ) (parts : List Part) (from : ℕ) (cs : List Captured)
+    → rewritten text (λ c. filled text c parts) from cs ≡ filled_from text parts from cs
+rewritten-filled text parts from [] = refl
+rewritten-filled text parts from (c ∷ cs) =
+    let slice = slice_range text from (match_in c).start in
+    let end = (match_in c).end in
+    ap (λ (rest : List ℕ). slice ++ (filled text c parts ++ rest)) (rewritten-filled text parts end cs)
+    ∙ sym (append_assoc slice (filled text c parts) (filled_from text parts end cs))
+
+pub filled-by : (r : ChoiceState) (text : List ℕ) (parts : List Part) (result : Result (Vec ℕ) AllocError)
+    → IfOk result (λ output. IsRewrittenBy r text (λ c. filled text c parts) output.items)
+    → IfOk result (λ output. IsFilled r text parts output.items)
+filled-by r text parts (Ok output) by = record {
+  caught = by.caught;
+  all = by.all;
+  output_is = by.output_is ∙ rewritten-filled text parts 0 by.caught;
+}
+filled-by r text parts (Err error) by = tt

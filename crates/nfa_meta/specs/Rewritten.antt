@@ -27,6 +27,11 @@ pub record IsRewrittenUpToBy (r : ChoiceState) (text : List ℕ) (limit : ℕ) (
   pub all : AreAllCaught r text caught
   pub output_is : output ≡ rewritten text h 0 (take limit caught)
 
+-- where the match of the last of these captures ends, or an offset if there are none
+abbrev pub end_after : ℕ → List Captured → ℕ
+end_after from [] = from
+end_after from (c ∷ cs) = end_after (match_in c).end cs
+
 -- what calls left: the function, and the output
 pub record CallsLeft (F : Type 0) : Type 0 where
   pub replacement : F
@@ -85,6 +90,16 @@ module _ {F : Type 0} (g : Mut F (Bor Captured × (MutBor (Vec ℕ) × Unit {0})
     pub within : from ≤ length text
     pub inside : AllByRecursion (CapturesInside (whole text)) left
     pub apart : AreDisjoint (whole text) (last_end i from) (map match_in left)
+
+  -- The calls for these captures, from f on, left this: if calls for more captures lead on to an output, all calls do.
+  pub record HasRewrittenSoFar (text : List ℕ) (caught : List Captured) (f : F) (now : CallsLeft F) (from : ℕ)
+      : Type 0 where
+    pub goes_on : (more : List Captured) (after : List ℕ)
+        → RewritesFrom text from more now.replacement now.output after
+        → RewritesFrom text 0 (caught ++ more) f [] after
+    pub leads : WritesLead text f now.replacement
+    pub ends : from ≡ end_after 0 caught
+    pub within : from ≤ length text
 
   module _ (r : ChoiceState) (text : List ℕ) (f : F) where
     -- the output is the text with what f appends for its captures in place of each match, from left to right

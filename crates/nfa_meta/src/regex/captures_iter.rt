@@ -1,12 +1,16 @@
 //! Iteration over the captures of the matches of an input.
+ghost use Rattle.std.specs.Prelude.{◌≡◌, None, Ok, Some, false, true};
 ghost use Rattle.nfa_search_base.specs.Lists.{HasGroups};
+ghost use Rattle.nfa_search_base.specs.Stored.{with_cache};
+ghost use Rattle.nfa_meta.specs.CapturesSteps.{captures_call};
+ghost use Rattle.nfa_meta.specs.RegexState.{KeepsRegex};
 
 use crate::regex::Regex;
 use nfa_engines::error::SearchError;
 use nfa_engines::iter::captures_items::{captures_item, captures_span};
 use nfa_engines::iter::{FindWith, Searcher, Steps};
 use regex_search_core::{Captures, Input, Span};
-use std::alloc::Global;
+use std::alloc::{AllocError, Global};
 use std::marker::Model;
 
 /// An iterator over the captures of all matches of an input that do not overlap, from left to right.
@@ -24,7 +28,7 @@ pub struct CapturesMatches<'r, 'h> {
 
 // The captures that the searches of one iteration fill. Each search borrows the engine.
 #[derive(Debug, Drop)]
-struct CapturesFinder {
+pub(super) struct CapturesFinder {
     captures: Captures,
 }
 
@@ -37,7 +41,7 @@ impl Model for CapturesFinder {
 }
 
 impl Regex {
-    ghost use Rattle.std.specs.Prelude.{◌≡◌, All, IfOk, IsOkUnless, map};
+    ghost use Rattle.std.specs.Prelude.{All, IfOk, IsOkUnless, map};
     ghost use Rattle.regex_search_core.specs.Search.{search_of};
     ghost use Rattle.nfa_search_base.specs.WithCaptures.{row_of};
     ghost use Rattle.nfa_search_base.specs.Lists.{AnswersRow};
@@ -45,9 +49,9 @@ impl Regex {
     ghost use Rattle.nfa_meta.specs.CapturesMatches.{CapturesBySearches, CapturesGiveKept};
     ghost use Rattle.nfa_meta.specs.CapturesMatches.{RegexCapturesOn, RegexCapturesToEnd, captures_regex};
     ghost use Rattle.nfa_meta.specs.CapturesMatches.{captures_next};
+    ghost use Rattle.nfa_meta.specs.CapturesSteps.{BeginsCaptures};
     ghost use Rattle.nfa_choice.specs.Answered.{ListsCaptures};
     ghost use Rattle.nfa_choice.specs.ChoiceState.{kind_in};
-    ghost use Rattle.nfa_meta.specs.RegexState.{KeepsRegex};
 
     /// Returns an iterator over the captures of all matches that do not overlap, from left to right, each with all
     /// groups of the NFA. This call runs no search. The only error is [`SearchError::Memory`]: the captures to search
@@ -165,6 +169,44 @@ impl Regex {
         };
         Steps::new(input, finder).all_with(alloc, self)
     }
+
+    /// Returns steps over the captures of the haystack, which borrow the regex for each step (`next_captures`).
+    pub(super) fn begin_captures<'h>(
+        &self,
+        alloc: Global,
+        haystack: &'h [u8],
+    ) -> Result<Steps<'h, CapturesFinder>, AllocError>
+        ensures { IfOk result (BeginsCaptures self.now haystack.now) }
+    {
+        let Ok(captures) = self.create_captures(alloc) else {
+            return Err(AllocError);
+        };
+        let input = Input::new(haystack);
+        let steps = Steps::new(input, CapturesFinder { captures });
+        Ok(steps)
+    }
+}
+
+/// Takes the next step, by searches of the regex, and leaves the captures of its match in the steps. Returns whether
+/// there is one.
+pub(super) fn next_captures(steps: &mut Steps<'_, CapturesFinder>, regex: &mut Regex) -> bool
+    requires { HasGroups regex.old.choice.nfa steps.old.backend.captures }
+    ensures some { result ≡ true → captures_call (with_cache steps.old regex.old)
+        (Some (Ok steps.new.backend.captures)) (with_cache steps.new regex.new) }
+    ensures none { result ≡ false
+        → captures_call (with_cache steps.old regex.old) None (with_cache steps.new regex.new) }
+    ensures groups { HasGroups regex.new.choice.nfa steps.new.backend.captures }
+    ensures keeps { KeepsRegex regex.old regex.new }
+{
+    steps.advance_with(regex);
+    !steps.done
+}
+
+/// Returns the captures that the last step left.
+pub(super) fn captures_in<'s>(steps: &'s Steps<'_, CapturesFinder>) -> &'s Captures
+    ensures { result.now ≡ steps.now.backend.captures }
+{
+    &steps.backend.captures
 }
 
 impl FindWith for CapturesFinder {
@@ -208,7 +250,6 @@ impl FindWith for CapturesFinder {
 }
 
 impl<'r, 'h> CapturesMatches<'r, 'h> {
-    ghost use Rattle.std.specs.Prelude.{◌≡◌};
     ghost use Rattle.std.specs.Borrow.{sem};
     ghost use Rattle.nfa_search_base.specs.Stored.{held_item};
     ghost use Rattle.nfa_search_base.specs.WithCaptures.{lent_item};

@@ -86,11 +86,9 @@ impl Regex {
             IsFilled self.old.choice haystack.now template.now.parts.items output.items) }
         ensures keeps { KeepsRegex self.old self.new }
     {
-        let Ok(caught) = self.captures_all(alloc, Input::new(haystack)) else {
-            return Err(AllocError);
-        };
-        let output = template.fill_all(alloc, haystack, caught)?;
-        Ok(output)
+        self.replace_all_with(alloc, haystack, |captures, output| {
+            template.fill(haystack, captures, output)
+        })
     }
 
     /// Returns the haystack with the template, filled by their captures, in place of its first matches: at most

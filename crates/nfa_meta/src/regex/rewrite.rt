@@ -4,12 +4,15 @@ ghost use Rattle.regex_search_core.specs.Search.{whole};
 ghost use Rattle.regex_search_core.specs.Slots.{Captured};
 ghost use Rattle.nfa_search_base.specs.Runs.{CapturesInside, match_in};
 ghost use Rattle.nfa_search_base.specs.Lists.{AreDisjoint};
+ghost use Rattle.nfa_meta.specs.CapturesSteps.{BeginsCaptures};
 ghost use Rattle.nfa_meta.specs.RegexState.{KeepsRegex};
 ghost use Rattle.nfa_meta.specs.Rewritten.{AppendsBy, IsRewritten, IsRewrittenBy, IsRewrittenUpTo};
 ghost use Rattle.nfa_meta.specs.Rewritten.{IsRewrittenUpToBy, RewritesFrom, TakesMatchesOf};
 
 use crate::interpolate::copy_to_match;
 use crate::regex::Regex;
+use crate::regex::captures_iter::{CapturesFinder, captures_in, next_captures};
+use nfa_engines::iter::Steps;
 use regex_search_core::{Captures, Input};
 use std::alloc::{AllocError, Global};
 
@@ -46,11 +49,8 @@ impl Regex {
             → IfOk result (λ output. IsRewrittenBy self.old.choice haystack.now h output.items) }
         ensures keeps { KeepsRegex self.old self.new }
     {
-        let Ok(caught) = self.captures_all(alloc, Input::new(haystack)) else {
-            return Err(AllocError);
-        };
-        let output = rewrite(alloc, haystack, caught, replacement)?;
-        Ok(output)
+        let steps = self.begin_captures(alloc, haystack)?;
+        rewrite_all(self, steps, alloc, haystack, replacement)
     }
 
     /// Returns the haystack with what the function appends, for their captures, in place of its first matches: at most
@@ -89,6 +89,37 @@ impl Regex {
         let output = rewrite(alloc, haystack, caught, replacement)?;
         Ok(output)
     }
+}
+
+/// Returns the haystack with what the function appends, for the captures that the steps lend, in place of the match of
+/// each.
+fn rewrite_all<'h, F>(
+    regex: &mut Regex,
+    mut steps: Steps<'h, CapturesFinder>,
+    alloc: Global,
+    haystack: &'h [u8],
+    mut replacement: F,
+) -> Result<Vec<u8>, AllocError>
+where
+    F: FnMut(&Captures, &mut Vec<u8>) -> Result<(), AllocError>,
+    requires begins { BeginsCaptures regex.old haystack.now steps }
+    requires takes { TakesMatchesOf F.FnMut haystack.now replacement }
+    ensures rewritten { IfOk result (λ output.
+        IsRewritten F.FnMut regex.old.choice haystack.now replacement output.items) }
+    ensures appended { (h : Captured → List ℕ) → AppendsBy F.FnMut haystack.now replacement h
+        → IfOk result (λ output. IsRewrittenBy regex.old.choice haystack.now h output.items) }
+    ensures keeps { KeepsRegex regex.old regex.new }
+{
+    let mut output = Vec::new(alloc);
+    let mut from = 0;
+    while next_captures(&mut steps, regex) {
+        let captures = captures_in(&steps);
+        let end = copy_to_match(haystack, from, captures, &mut output)?;
+        replacement(captures, &mut output)?;
+        from = end;
+    }
+    output.extend_from_slice(&haystack[from..])?;
+    Ok(output)
 }
 
 /// Returns the haystack with what the function appends for these captures in place of the match of each.
