@@ -1,7 +1,7 @@
 pub mod Built
 pub mod CapturesMatches
-pub mod Counted
 pub mod CapturesSteps
+pub mod Counted
 pub mod Filled
 pub mod Gaps
 pub mod GroupNames
