@@ -43,7 +43,7 @@ printf 'word = [a-z]+\\nspace = \\s+\\n' > rules; echo 'to be' | lexer --json ru
     prints two words and the white space after each as objects.";
 
 /// What the arguments ask for.
-#[derive(Debug, Drop)]
+#[derive(Drop)]
 pub struct Arguments<'w> {
     /// The name of the file of the rules, if one is given.
     pub rules: Option<&'w str>,
@@ -70,7 +70,7 @@ impl<'w> Arguments<'w> {
 }
 
 /// What the arguments ask for.
-#[derive(Debug, Drop)]
+#[derive(Drop)]
 pub enum Asked<'w> {
     /// Print the help.
     Help,
@@ -79,7 +79,7 @@ pub enum Asked<'w> {
 }
 
 /// Why the arguments are wrong.
-#[derive(Clone, Copy, Debug)]
+#[derive(Clone, Copy)]
 pub enum Misuse<'w> {
     /// There is no such option.
     NoOption(&'w str),
@@ -98,8 +98,8 @@ impl fmt::Display for Misuse<'_> {
                 f,
                 "there is no option {word}; after -- no word is one"
             ),
-            Misuse::NotText(error) => write!(f, "{error}"),
-            Misuse::NoName => write!(f, "--skip needs the name of a rule"),
+            Misuse::NotText(error) => fmt::Display::fmt(error, f),
+            Misuse::NoName => f.write_str("--skip needs the name of a rule"),
             Misuse::TwoFiles(word) => write!(f, "RULES is one file, and {word} is one word more"),
         }
     }
@@ -111,15 +111,13 @@ pub fn parse<'w>(
     words: &[Word<'w>],
 ) -> Result<Result<Asked<'w>, Misuse<'w>>, AllocError> {
     let parted = part_words(alloc, VALUED, words)?;
-    let options = match texts(alloc, &parted.options)? {
-        Ok(options) => options,
-        Err(error) => return Ok(Err(Misuse::NotText(error))),
-    };
-    let rules = match file_of(&parted.operands) {
-        Ok(rules) => rules,
-        Err(misuse) => return Ok(Err(misuse)),
-    };
-    with_options(alloc, rules, &options)
+    match texts(alloc, &parted.options)? {
+        Ok(options) => match file_of(&parted.operands) {
+            Ok(rules) => with_options(alloc, rules, &options),
+            Err(misuse) => Ok(Err(misuse)),
+        },
+        Err(error) => Ok(Err(Misuse::NotText(error))),
+    }
 }
 
 /// Returns what these options ask for.
@@ -136,28 +134,52 @@ fn with_options<'w>(
         positions: false,
     };
     let mut is_help = false;
+    match read_options(&mut arguments, &mut is_help, options)? {
+        Ok(()) if is_help => Ok(Ok(Asked::Help)),
+        Ok(()) => Ok(Ok(Asked::Tokens(arguments))),
+        Err(misuse) => Ok(Err(misuse)),
+    }
+}
+
+/// Reads the options with their values.
+fn read_options<'w>(
+    arguments: &mut Arguments<'w>,
+    is_help: &mut bool,
+    options: &[&'w str],
+) -> Result<Result<(), Misuse<'w>>, AllocError> {
     let mut is_name = false;
     for option in options {
-        match *option {
-            name if is_name => {
-                arguments.skip.push(name)?;
-                is_name = false;
-            }
-            "--help" => is_help = true,
-            "--skip" => is_name = true,
-            "--json" => arguments.json = true,
-            "--recover" => arguments.recover = true,
-            "--positions" => arguments.positions = true,
-            other => return Ok(Err(Misuse::NoOption(other))),
+        if is_name {
+            arguments.skip.push(*option)?;
+            is_name = false;
+            continue;
+        }
+        match read_option(arguments, is_help, option) {
+            Ok(takes_name) => is_name = takes_name,
+            Err(misuse) => return Ok(Err(misuse)),
         }
     }
-    Ok(if is_name {
-        Err(Misuse::NoName)
-    } else if is_help {
-        Ok(Asked::Help)
-    } else {
-        Ok(Asked::Tokens(arguments))
-    })
+    if is_name {
+        return Ok(Err(Misuse::NoName));
+    }
+    Ok(Ok(()))
+}
+
+/// Reads an option, and returns whether the next word is its value.
+fn read_option<'w>(
+    arguments: &mut Arguments<'w>,
+    is_help: &mut bool,
+    option: &'w str,
+) -> Result<bool, Misuse<'w>> {
+    match option {
+        "--help" => *is_help = true,
+        "--json" => arguments.json = true,
+        "--recover" => arguments.recover = true,
+        "--positions" => arguments.positions = true,
+        "--skip" => return Ok(true),
+        other => return Err(Misuse::NoOption(other)),
+    }
+    Ok(false)
 }
 
 /// Returns the name of the file of the rules, if there is one.

@@ -19,14 +19,14 @@ use std::alloc::Global;
 use std::marker::Model;
 
 /// A piece of the text, of at least one byte, and the pattern that it matches.
-#[derive(Clone, Copy, Debug, PartialEq, Eq)]
+#[derive(Clone, Copy)]
 pub struct Token {
     pub pattern: PatternID,
     pub span: Span,
 }
 
 /// A piece of the text, of at least one byte.
-#[derive(Clone, Copy, Debug)]
+#[derive(Clone, Copy)]
 pub enum Piece {
     Token(Token),
     /// A longest stretch at which no token starts.

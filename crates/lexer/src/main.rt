@@ -1,6 +1,9 @@
 //! Reads a source text from standard input, and prints each of its tokens in a line.
 #![tactic(auto)]
 
+ghost use Rattle.std.specs.Prelude.{◌≡◌};
+ghost use Rattle.lexer.specs.Rules.{rule_patterns};
+
 mod command;
 mod lexer;
 mod names;
@@ -13,7 +16,7 @@ use crate::command::{Arguments, Asked, HELP, USAGE, parse};
 use crate::lexer::Lexer;
 use crate::names::unknown_name;
 use crate::report::Style;
-use crate::rules::RulesError;
+use crate::rules::{Rule, RulesError};
 use anyhow::Result;
 use option_values::words::{arguments, words};
 use std::fmt::Display;
@@ -80,12 +83,22 @@ fn run(rt: &HostRuntime, text: &str, style: Style<'_>) -> Result<ExitCode> {
     if let Some(name) = unknown_name(style.skip, &rules) {
         return Ok(misused(rt, format_args!("no rule has the name {name}")));
     }
-    let mut lexer = match Lexer::new(rt.alloc(), &rules) {
-        Ok(lexer) => lexer,
-        Err(error) => return refused(rt, error),
-    };
+    match Lexer::new(rt.alloc(), &rules) {
+        Ok(mut lexer) => print_tokens(rt, &mut lexer, &rules, style),
+        Err(error) => refused(rt, error),
+    }
+}
+
+fn print_tokens(
+    rt: &HostRuntime,
+    lexer: &mut Lexer<'_>,
+    rules: &[Rule<'_>],
+    style: Style<'_>,
+) -> Result<ExitCode>
+    requires { lexer.old ≡ rule_patterns rules.now }
+{
     let mut out = BufWriter::new(rt.alloc(), io::writer(rt))?;
-    match report::run(rt.alloc(), &mut lexer, &rules, style, rt.reader(), &mut out) {
+    match report::run(rt.alloc(), lexer, rules, style, rt.reader(), &mut out) {
         Ok(true) => Ok(ExitCode::SUCCESS),
         Ok(false) => Ok(ExitCode::from(STUCK)),
         // The reader of the pipe has what it wants.

@@ -11,7 +11,7 @@ pub fn positions_are_counted()
 {}
 
 /// The line of a place in a text and its column in characters, both from 1.
-#[derive(Clone, Copy, Debug)]
+#[derive(Clone, Copy)]
 pub struct Position {
     pub line: usize,
     pub column: usize,

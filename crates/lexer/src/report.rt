@@ -16,7 +16,7 @@ use std::io;
 use std::io::{Read, Write};
 
 /// How tokens are printed.
-#[derive(Clone, Copy, Debug)]
+#[derive(Clone, Copy)]
 pub struct Style<'s> {
     /// The names of the rules whose tokens are not printed.
     pub skip: &'s [&'s str],

@@ -27,7 +27,7 @@ pub const DEFAULT: &str = concat!(
 );
 
 /// A rule: what matches its pattern is a token of its name.
-#[derive(Clone, Copy, Debug, PartialEq, Eq)]
+#[derive(Clone, Copy)]
 pub struct Rule<'t> {
     pub name: &'t str,
     pub pattern: &'t str,

@@ -24,7 +24,7 @@ use std::io;
 use std::io::Write;
 
 /// What is shown of a token besides its name.
-#[derive(Clone, Copy, Debug)]
+#[derive(Clone, Copy)]
 pub struct Shown<'t> {
     pub span: Span,
     /// The position of its start, if positions are printed.

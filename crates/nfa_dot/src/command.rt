@@ -14,7 +14,7 @@ Make a picture of the graph with Graphviz: nfa_dot --pattern 'ab+' xabb | dot -T
 Status: 0, or 2 after an error.";
 
 /// Where the NFA comes from.
-#[derive(Clone, Copy, Debug, PartialEq, Eq)]
+#[derive(Clone, Copy)]
 pub enum Source<'w> {
     /// The sample of this name.
     Sample(&'w str),
@@ -73,17 +73,23 @@ fn words_argument<'w>(alloc: Global) -> Result<Arg<'w>, AllocError> {
 fn read_matches<'w>(alloc: Global, matches: &ArgMatches<'w>) -> Result<Command<'w>> {
     let mut words = Vec::new(alloc);
     if let Some(given) = matches.get_strs("words") {
-        for word in given {
-            words.push(*word)?;
-        }
+        words.extend_from_slice(given)?;
     }
-    let (source, haystack) = match (matches.get_str("pattern"), words.as_slice()) {
-        (Some(pattern), []) => (Source::Pattern(pattern), None),
-        (Some(pattern), [haystack]) => (Source::Pattern(pattern), Some(*haystack)),
-        (None, [name]) => (Source::Sample(*name), None),
-        (None, [name, haystack]) => (Source::Sample(*name), Some(*haystack)),
-        (_, [.., last]) => bail!("expected no argument after the haystack, found {last:?}"),
-        (None, []) => bail!("expected the name of a sample NFA, found no argument"),
+    match matches.get_str("pattern") {
+        Some(pattern) => drawn(Source::Pattern(pattern), &words),
+        None => match words.as_slice() {
+            [name, words @ ..] => drawn(Source::Sample(*name), words),
+            [] => bail!("expected the name of a sample NFA, found no argument"),
+        },
+    }
+}
+
+/// Returns the command to draw the NFA. The one word after that of the NFA, if there is one, is the haystack.
+fn drawn<'w>(source: Source<'w>, words: &[&'w str]) -> Result<Command<'w>> {
+    let haystack = match words {
+        [] => None,
+        [haystack] => Some(*haystack),
+        [.., last] => bail!("expected no argument after the haystack, found {last:?}"),
     };
     Ok(Command::Draw { source, haystack })
 }

@@ -31,6 +31,11 @@ impl Edge {
         Edge { label, next }
     }
 
+    fn holds(look: Look, next: StateID) -> Edge {
+        let label = Label::Holds(look);
+        Edge { label, next }
+    }
+
     fn free(next: StateID) -> Edge {
         let label = Label::Free;
         Edge { label, next }
@@ -78,10 +83,10 @@ impl fmt::Display for Shown {
 impl fmt::Display for Label {
     fn fmt<W: fmt::Write>(&self, f: &mut fmt::Formatter<W>) -> fmt::Result {
         match *self {
-            Label::Bytes { start, end } if start == end => write!(f, "{}", Shown(start)),
+            Label::Bytes { start, end } if start == end => fmt::Display::fmt(&Shown(start), f),
             Label::Bytes { start, end } => write!(f, "{}-{}", Shown(start), Shown(end)),
-            Label::Holds(look) => write!(f, "{look:?}"),
-            Label::Alternative(index) => write!(f, "{}", index.saturating_add(1)),
+            Label::Holds(look) => fmt::Debug::fmt(&look, f),
+            Label::Alternative(index) => fmt::Display::fmt(&index.saturating_add(1), f),
             Label::Free => Ok(()),
         }
     }
@@ -89,20 +94,21 @@ impl fmt::Display for Label {
 
 /// Returns the edges of the state, in the order in which a search tries them.
 pub fn edges_of(alloc: Global, state: &State) -> Result<Vec<Edge>, AllocError> {
-    let mut edges = Vec::new(alloc);
     match state {
-        State::ByteRange { trans } => edges.push(Edge::on_bytes(trans))?,
-        State::Sparse(transitions) => return transitions.iter().map(Edge::on_bytes).collect(alloc),
-        State::Dense(targets) => return dense_edges(alloc, targets),
-        State::Look { look, next } => edges.push(Edge {
-            label: Label::Holds(*look),
-            next: *next,
-        })?,
-        State::Union { alternates } => return alternatives(alloc, alternates),
-        State::BinaryUnion { alt1, alt2 } => return alternatives(alloc, &[*alt1, *alt2]),
-        State::Capture { next, .. } => edges.push(Edge::free(*next))?,
-        State::Fail | State::Match { .. } => {}
+        State::ByteRange { trans } => one_edge(alloc, Edge::on_bytes(trans)),
+        State::Sparse(transitions) => transitions.iter().map(Edge::on_bytes).collect(alloc),
+        State::Dense(targets) => dense_edges(alloc, targets),
+        State::Look { look, next } => one_edge(alloc, Edge::holds(*look, *next)),
+        State::Union { alternates } => alternatives(alloc, alternates),
+        State::BinaryUnion { alt1, alt2 } => alternatives(alloc, &[*alt1, *alt2]),
+        State::Capture { next, .. } => one_edge(alloc, Edge::free(*next)),
+        State::Fail | State::Match { .. } => Ok(Vec::new(alloc)),
     }
+}
+
+fn one_edge(alloc: Global, edge: Edge) -> Result<Vec<Edge>, AllocError> {
+    let mut edges = Vec::new(alloc);
+    edges.push(edge)?;
     Ok(edges)
 }
 

@@ -8,7 +8,7 @@ use std::io::Write;
 use thompson_nfa::{NFA, State};
 
 /// What is marked in the graph.
-#[derive(Debug, Drop)]
+#[derive(Drop)]
 pub enum Marks {
     /// Nothing: there is no haystack.
     None,
@@ -37,6 +37,9 @@ impl Marks {
     }
 }
 
+/// The arrow that is not written to its end, if there is one: its target, and whether it is marked.
+type Arrow = Option<(StateID, bool)>;
+
 /// Writes the graph, a node for each state with its number, and the edges from it, and flushes the output. Fails if the
 /// output cannot be written, or if allocation failed.
 pub fn write_graph<W: Write>(
@@ -45,16 +48,27 @@ pub fn write_graph<W: Write>(
     nfa: &NFA,
     marks: &Marks,
 ) -> io::Result<()> {
+    write_head(out, nfa, marks)?;
+    write_states(alloc, out, nfa, marks)?;
+    out.write_all(b"}\n")?;
+    out.flush()
+}
+
+/// Writes what comes before the states.
+fn write_head<W: Write>(out: &mut W, nfa: &NFA, marks: &Marks) -> io::Result<()> {
     out.write_all(b"digraph nfa {\n  rankdir=LR;\n  node [shape=box];\n")?;
     write_title(out, marks)?;
     write_start(out, "anchored", nfa.start_anchored())?;
-    write_start(out, "unanchored", nfa.start_unanchored())?;
+    write_start(out, "unanchored", nfa.start_unanchored())
+}
+
+fn write_states<W: Write>(alloc: Global, out: &mut W, nfa: &NFA, marks: &Marks) -> io::Result<()> {
     for (number, state) in nfa.states().iter().enumerate() {
         write_state(out, number, state, marks)?;
-        write_edges(out, number, &edges_of(alloc, state)?, marks)?;
+        let edges = edges_of(alloc, state)?;
+        write_edges(out, number, &edges, marks)?;
     }
-    out.write_all(b"}\n")?;
-    out.flush()
+    Ok(())
 }
 
 fn write_title<W: Write>(out: &mut W, marks: &Marks) -> io::Result<()> {
@@ -85,20 +99,25 @@ fn write_state<W: Write>(
     marks: &Marks,
 ) -> io::Result<()> {
     write!(out, "  {number} [label=\"{number}\\n")?;
+    write_kind(out, state)?;
+    write_mark(out, marks.has_state(number))
+}
+
+/// Writes the kind of the state, and the end of the label.
+fn write_kind<W: Write>(out: &mut W, state: &State) -> io::Result<()> {
     match state {
-        State::ByteRange { .. } => out.write_all(b"ByteRange\"")?,
-        State::Sparse(_) => out.write_all(b"Sparse\"")?,
-        State::Dense(_) => out.write_all(b"Dense\"")?,
-        State::Look { .. } => out.write_all(b"Look\"")?,
-        State::Union { .. } => out.write_all(b"Union\"")?,
-        State::BinaryUnion { .. } => out.write_all(b"BinaryUnion\"")?,
-        State::Capture { slot, .. } => write!(out, "Capture {slot}\"")?,
-        State::Fail => out.write_all(b"Fail\"")?,
+        State::ByteRange { .. } => out.write_all(b"ByteRange\""),
+        State::Sparse(_) => out.write_all(b"Sparse\""),
+        State::Dense(_) => out.write_all(b"Dense\""),
+        State::Look { .. } => out.write_all(b"Look\""),
+        State::Union { .. } => out.write_all(b"Union\""),
+        State::BinaryUnion { .. } => out.write_all(b"BinaryUnion\""),
+        State::Capture { slot, .. } => write!(out, "Capture {slot}\""),
+        State::Fail => out.write_all(b"Fail\""),
         State::Match { pattern_id } => {
-            write!(out, "Match {}\", peripheries=2", pattern_id.as_usize())?
+            write!(out, "Match {}\", peripheries=2", pattern_id.as_usize())
         }
     }
-    write_mark(out, marks.has_state(number))
 }
 
 /// Writes the edges of a state. Edges that follow one another and lead to one state share an arrow.
@@ -108,7 +127,6 @@ fn write_edges<W: Write>(
     edges: &[Edge],
     marks: &Marks,
 ) -> io::Result<()> {
-    // The target of the arrow that is not written to its end, and whether it is marked.
     let mut open = None;
     for (index, edge) in edges.iter().enumerate() {
         let step = Step {
@@ -116,19 +134,31 @@ fn write_edges<W: Write>(
             edge: index,
         };
         let arrow = Some((edge.next, marks.has_edge(step)));
-        if open == arrow {
-            write!(out, ", {}", edge.label)?;
-        } else {
-            close_arrow(out, open)?;
-            let target = edge.next.as_usize();
-            write!(out, "  {number} -> {target} [label=\"{}", edge.label)?;
-            open = arrow;
-        }
+        open = write_edge(out, number, edge, open, arrow)?;
     }
     close_arrow(out, open)
 }
 
-fn close_arrow<W: Write>(out: &mut W, open: Option<(StateID, bool)>) -> io::Result<()> {
+/// Writes an edge of the state of this number. It is on this arrow, which may be the one that is open. Returns the arrow
+/// that is open then.
+fn write_edge<W: Write>(
+    out: &mut W,
+    number: usize,
+    edge: &Edge,
+    open: Arrow,
+    arrow: Arrow,
+) -> io::Result<Arrow> {
+    if open == arrow {
+        write!(out, ", {}", edge.label)?;
+        return Ok(open);
+    }
+    close_arrow(out, open)?;
+    let target = edge.next.as_usize();
+    write!(out, "  {number} -> {target} [label=\"{}", edge.label)?;
+    Ok(arrow)
+}
+
+fn close_arrow<W: Write>(out: &mut W, open: Arrow) -> io::Result<()> {
     match open {
         Some((_, marked)) => {
             out.write_all(b"\"")?;

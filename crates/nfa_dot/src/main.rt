@@ -10,6 +10,7 @@ use crate::command::{Command, Source, parse};
 use crate::graph::{Marks, write_graph};
 use crate::path::answered_path;
 use anyhow::{Context, Result, bail};
+use clap::Error;
 use nfa_compiler::{Compiler, OnlyPattern};
 use nfa_engines::pikevm::PikeVM;
 use nfa_samples::sample;
@@ -42,29 +43,41 @@ fn answer(rt: &HostRuntime) -> Result<ExitCode> {
             draw(rt, source, haystack)?;
             Ok(ExitCode::SUCCESS)
         }
-        Command::Say(error) => {
-            let code = if error.use_stderr() { FAILED } else { 0 };
-            error.print(rt)?;
-            Ok(ExitCode::from(code))
-        }
+        Command::Say(error) => say(rt, &error),
     }
+}
+
+/// Prints the help, or what is wrong with the arguments.
+fn say(rt: &HostRuntime, error: &Error) -> Result<ExitCode> {
+    let code = if error.use_stderr() { FAILED } else { 0 };
+    error.print(rt)?;
+    Ok(ExitCode::from(code))
 }
 
 fn draw(rt: &HostRuntime, source: Source<'_>, haystack: Option<&str>) -> Result<()> {
     let alloc = rt.alloc();
     let vm = PikeVM::new_from_nfa(nfa_of(alloc, source)?)?;
-    let marks = match haystack {
-        Some(haystack) => match answered_path(alloc, &vm, haystack.as_bytes())? {
-            Some(path) => Marks::Path(path),
-            None => Marks::NoMatch,
-        },
-        None => Marks::None,
+    let marks = marks_of(alloc, &vm, haystack)?;
+    print_graph(rt, vm.get_nfa(), &marks)
+}
+
+/// What is marked: the path that a search of the haystack answers.
+fn marks_of(alloc: Global, vm: &PikeVM, haystack: Option<&str>) -> Result<Marks> {
+    let Some(haystack) = haystack else {
+        return Ok(Marks::None);
     };
-    let mut out = BufWriter::new(alloc, io::writer(rt))?;
-    if let Err(error) = write_graph(alloc, &mut out, vm.get_nfa(), &marks) {
-        bail!("cannot write the graph: {error}");
+    match answered_path(alloc, vm, haystack.as_bytes())? {
+        Some(path) => Ok(Marks::Path(path)),
+        None => Ok(Marks::NoMatch),
     }
-    Ok(())
+}
+
+fn print_graph(rt: &HostRuntime, nfa: &NFA, marks: &Marks) -> Result<()> {
+    let mut out = BufWriter::new(rt.alloc(), io::writer(rt))?;
+    match write_graph(rt.alloc(), &mut out, nfa, marks) {
+        Ok(()) => Ok(()),
+        Err(error) => bail!("cannot write the graph: {error}"),
+    }
 }
 
 /// The NFA that is drawn.

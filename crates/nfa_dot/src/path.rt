@@ -11,14 +11,14 @@ use std::collections::BTreeSet;
 use thompson_nfa::{NFA, State};
 
 /// An edge of a path: the number of the state that it leaves, and its index among the edges of this state.
-#[derive(Clone, Copy, Debug, PartialEq, Eq)]
+#[derive(Clone, Copy, PartialEq, Eq)]
 pub struct Step {
     pub state: usize,
     pub edge: usize,
 }
 
 /// A path from a start state to a match.
-#[derive(Debug, Drop)]
+#[derive(Drop)]
 pub struct Path {
     pub pattern: PatternID,
     /// The offset in the haystack where the path starts.
@@ -71,7 +71,7 @@ fn starts_match(vm: &PikeVM, cache: &mut Cache, haystack: &[u8], start: usize) -
 }
 
 /// A state at a position, and how the search came there.
-#[derive(Clone, Copy, Debug, PartialEq, Eq)]
+#[derive(Clone, Copy)]
 struct Visit {
     state: StateID,
     at: usize,
@@ -81,33 +81,85 @@ struct Visit {
 
 /// Returns the first accepting path from this position: depth first, each state at most once at each position.
 fn first_path(alloc: Global, nfa: &NFA, haystack: &[u8], start: usize) -> Result<Option<Path>> {
-    let mut visits = Vec::new(alloc);
-    let mut seen = BTreeSet::new(alloc);
     let mut stack = Vec::new(alloc);
     stack.push(Visit {
         state: nfa.start_anchored(),
         at: start,
         from: None,
     })?;
-    for _ in 0..u64::MAX {
-        let Some(visit) = stack.pop() else { break };
-        let Some(state) = nfa.states().get(visit.state.as_usize()) else {
-            break;
-        };
-        if let State::Match { pattern_id } = state {
-            return Ok(Some(path_to(alloc, *pattern_id, &visits, visit)?));
-        }
-        if seen.insert((visit.state.as_usize(), visit.at))? {
-            for next in targets(alloc, state, haystack, visit.at, visits.len())?
-                .iter()
-                .rev()
-            {
-                stack.push(*next)?;
-            }
-            visits.push(visit)?;
-        }
+    let mut walk = Walk {
+        alloc,
+        nfa,
+        haystack,
+        visits: Vec::new(alloc),
+        seen: BTreeSet::new(alloc),
+        stack,
+    };
+    Ok(walk.path()?)
+}
+
+/// A walk through the states, depth first.
+struct Walk<'a> {
+    alloc: Global,
+    nfa: &'a NFA,
+    haystack: &'a [u8],
+    visits: Vec<Visit>,
+    /// The states that were visited, each with the position.
+    seen: BTreeSet<(usize, usize)>,
+    /// The visits that come next, in reverse order.
+    stack: Vec<Visit>,
+}
+
+// Written out, so that a drop is one call in a proof, and not one for each field.
+impl<'a> Drop for Walk<'a> {
+    fn drop(self) {
+        let Walk {
+            alloc: _,
+            nfa: _,
+            haystack: _,
+            visits: _,
+            seen: _,
+            stack: _,
+        } = self;
     }
-    Ok(None)
+}
+
+impl<'a> Walk<'a> {
+    /// Returns the path to the first match state that is visited.
+    fn path(&mut self) -> Result<Option<Path>, AllocError> {
+        let nfa = self.nfa;
+        for _ in 0..u64::MAX {
+            let Some(visit) = self.stack.pop() else { break };
+            match nfa.states().get(visit.state.as_usize()) {
+                Some(State::Match { pattern_id }) => {
+                    let path = path_to(self.alloc, *pattern_id, &self.visits, visit)?;
+                    return Ok(Some(path));
+                }
+                Some(state) => self.visit(state, visit)?,
+                None => break,
+            }
+        }
+        Ok(None)
+    }
+
+    /// Visits this state, unless it was visited at this position before.
+    fn visit(&mut self, state: &State, visit: Visit) -> Result<(), AllocError> {
+        if !self.seen.insert((visit.state.as_usize(), visit.at))? {
+            return Ok(());
+        }
+        let next = targets(
+            self.alloc,
+            state,
+            self.haystack,
+            visit.at,
+            self.visits.len(),
+        )?;
+        self.visits.push(visit)?;
+        for target in next.iter().rev() {
+            self.stack.push(*target)?;
+        }
+        Ok(())
+    }
 }
 
 /// The visits that come next, the preferred one first, if that of this state at this position has the index `number`.

@@ -9,7 +9,7 @@ use nfa_meta::interpolate::{Template, TemplateError};
 use std::alloc::Global;
 
 /// What is done at the matches of a text.
-#[derive(Debug, Drop)]
+#[derive(Drop)]
 pub enum Action<'w> {
     /// Replace each match by this template.
     Replace(Template<'w>),

@@ -52,7 +52,7 @@ replacer --whole replace '\\s+$' '' notes
     prints the file without the white space at its end.";
 
 /// What to do at the matches of a text.
-#[derive(Clone, Copy, Debug, PartialEq, Eq)]
+#[derive(Clone, Copy)]
 pub enum Command<'w> {
     /// Replace each match by this template.
     Replace(&'w [u8]),
@@ -63,7 +63,7 @@ pub enum Command<'w> {
 }
 
 /// A pattern, what to do at its matches, and how a text is read.
-#[derive(Clone, Copy, Debug, PartialEq, Eq)]
+#[derive(Clone, Copy)]
 pub struct Request<'w> {
     pub pattern: &'w str,
     /// Whether the pattern is a text, in which no character has a meaning of its own.
@@ -78,7 +78,7 @@ pub struct Request<'w> {
 }
 
 /// Where the result goes.
-#[derive(Clone, Copy, Debug, PartialEq, Eq)]
+#[derive(Clone, Copy)]
 pub enum Target<'w> {
     /// Standard output.
     Output,
@@ -87,7 +87,7 @@ pub enum Target<'w> {
 }
 
 /// The work that the arguments ask for.
-#[derive(Debug, Drop)]
+#[derive(Drop)]
 pub struct Arguments<'w> {
     pub request: Request<'w>,
     pub target: Target<'w>,
@@ -96,7 +96,7 @@ pub struct Arguments<'w> {
 }
 
 /// What the arguments ask for.
-#[derive(Debug, Drop)]
+#[derive(Drop)]
 pub enum Asked<'w> {
     /// Print the help.
     Help,
@@ -105,7 +105,7 @@ pub enum Asked<'w> {
 }
 
 /// Why the arguments are wrong.
-#[derive(Clone, Copy, Debug)]
+#[derive(Clone, Copy)]
 pub enum Misuse<'w> {
     /// There is no command.
     NoCommand,
@@ -134,20 +134,19 @@ pub enum Misuse<'w> {
 impl fmt::Display for Misuse<'_> {
     fn fmt<W: fmt::Write>(&self, f: &mut fmt::Formatter<W>) -> fmt::Result {
         match self {
-            Misuse::NoCommand => write!(f, "one of replace, split and splitn is needed"),
+            Misuse::NoCommand => f.write_str("one of replace, split and splitn is needed"),
             Misuse::NoSuch(word) => write!(f, "there is no command {word}"),
             Misuse::NoOption(word) => write!(
                 f,
                 "there is no option {word}; after -- no word is one"
             ),
-            Misuse::NotText(error) => write!(f, "{error}"),
-            Misuse::Short(needs) => write!(f, "{needs}"),
+            Misuse::NotText(error) => fmt::Display::fmt(error, f),
+            Misuse::Short(needs) | Misuse::NoValue(needs) => f.write_str(needs),
             Misuse::NoNumber(word) => write!(f, "{word} is not a number, or too large"),
-            Misuse::NoValue(needs) => write!(f, "{needs}"),
-            Misuse::TwoPatterns => write!(f, "-e is given twice, and there is one pattern"),
-            Misuse::LimitOfFields => write!(f, "-n is for replace; splitn has a limit"),
-            Misuse::NoSuffix => write!(f, "--in-place= needs a suffix without a slash"),
-            Misuse::NoFiles => write!(f, "--in-place needs the names of files, and - is none"),
+            Misuse::TwoPatterns => f.write_str("-e is given twice, and there is one pattern"),
+            Misuse::LimitOfFields => f.write_str("-n is for replace; splitn has a limit"),
+            Misuse::NoSuffix => f.write_str("--in-place= needs a suffix without a slash"),
+            Misuse::NoFiles => f.write_str("--in-place needs the names of files, and - is none"),
         }
     }
 }
@@ -159,7 +158,7 @@ impl<'w> From<NotText<'w>> for Misuse<'w> {
 }
 
 /// The options.
-#[derive(Clone, Copy, Debug)]
+#[derive(Clone, Copy)]
 struct Options<'w> {
     help: bool,
     pattern: Option<&'w str>,
@@ -176,14 +175,20 @@ pub fn parse<'w>(
     words: &[Word<'w>],
 ) -> Result<Result<Asked<'w>, Misuse<'w>>, AllocError> {
     let parted = part_words(alloc, VALUED, words)?;
-    let options = match options_of(&parted.options) {
-        Ok(options) => options,
-        Err(misuse) => return Ok(Err(misuse)),
-    };
-    if options.help {
-        return Ok(Ok(Asked::Help));
+    match options_of(&parted.options) {
+        Ok(options) if options.help => Ok(Ok(Asked::Help)),
+        Ok(options) => work_of(alloc, options, &parted.operands),
+        Err(misuse) => Ok(Err(misuse)),
     }
-    let (request, files) = match request_of(options, &parted.operands) {
+}
+
+/// Returns the work that these options and the other words ask for.
+fn work_of<'w>(
+    alloc: Global,
+    options: Options<'w>,
+    words: &[Word<'w>],
+) -> Result<Result<Asked<'w>, Misuse<'w>>, AllocError> {
+    let (request, files) = match request_of(options, words) {
         Ok(found) => found,
         Err(misuse) => return Ok(Err(misuse)),
     };
@@ -199,7 +204,7 @@ fn with_files<'w>(
     target: Target<'w>,
     files: Vec<&'w str>,
 ) -> Result<Asked<'w>, Misuse<'w>> {
-    if target != Target::Output && (files.is_empty() || files.contains(&"-")) {
+    if matches!(target, Target::Files(_)) && (files.is_empty() || files.contains(&"-")) {
         return Err(Misuse::NoFiles);
     }
     Ok(Asked::Work(Arguments {
@@ -298,11 +303,7 @@ fn request_of<'p, 'w>(
         [] => return Err(Misuse::NoCommand),
     };
     let needs = needs_of(name)?;
-    let (pattern, words) = match (options.pattern, words) {
-        (Some(pattern), words) => (pattern, words),
-        (None, [pattern, words @ ..]) => (pattern.text()?, words),
-        (None, []) => return Err(Misuse::Short(needs)),
-    };
+    let (pattern, words) = pattern_of(options.pattern, needs, words)?;
     let (command, files) = command_of(name, needs, words)?;
     if options.limit.is_some() && !matches!(command, Command::Replace(_)) {
         return Err(Misuse::LimitOfFields);
@@ -316,6 +317,21 @@ fn request_of<'p, 'w>(
         limit: options.limit,
     };
     Ok((request, files))
+}
+
+/// Returns the pattern, which is the first word if no option gives it, and the words after it.
+fn pattern_of<'p, 'w>(
+    given: Option<&'w str>,
+    needs: &'static str,
+    words: &'p [Word<'w>],
+) -> Result<(&'w str, &'p [Word<'w>]), Misuse<'w>> {
+    if let Some(pattern) = given {
+        return Ok((pattern, words));
+    }
+    match words {
+        [pattern, words @ ..] => Ok((pattern.text()?, words)),
+        [] => Err(Misuse::Short(needs)),
+    }
 }
 
 /// Returns what the command of this name needs.

@@ -8,7 +8,7 @@ use thiserror::Error;
 #[derive(Debug, Drop, Error)]
 pub enum Fault {
     /// The file could not be read, or there was no memory.
-    #[error("{0}")]
+    #[error(transparent)]
     Text(Failure),
     /// The name is that of a folder, a device or a pipe.
     #[error("not a regular file")]

@@ -31,10 +31,10 @@ pub enum Mistake {
     #[error("out of memory")]
     Memory,
     /// The pattern cannot be compiled.
-    #[error("{0}")]
+    #[error(transparent)]
     Pattern(OnlyPattern),
     /// The template cannot be read, or names a group that the pattern does not have.
-    #[error("{0}")]
+    #[error(transparent)]
     Template(TemplateError),
 }
 

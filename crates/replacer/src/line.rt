@@ -3,7 +3,7 @@ ghost use Rattle.std.specs.Prelude.{◌≡◌, []};
 ghost use Rattle.replacer.specs.Printed.{feed_of, without_feed};
 
 /// A text, and its end, which the pattern does not see.
-#[derive(Clone, Copy, Debug)]
+#[derive(Clone, Copy)]
 pub struct Line<'t> {
     pub text: &'t [u8],
     pub end: &'t [u8],

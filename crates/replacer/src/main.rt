@@ -66,29 +66,42 @@ fn help(rt: &HostRuntime) -> Result<ExitCode> {
 }
 
 fn run(rt: &HostRuntime, arguments: &Arguments<'_>) -> Result<ExitCode> {
-    let mut job = match Job::new(rt.alloc(), arguments.request) {
-        Ok(job) => job,
-        Err(Mistake::Memory) => return Err(Mistake::Memory.into()),
-        Err(mistake) => return Ok(misused(rt, mistake)),
-    };
-    if let Command::Replace(template) = arguments.request.command {
-        if has_foreign(template) {
-            // A hint that cannot be written changes nothing else.
-            let _ = eprintln!(rt; "replacer: {HINT}");
-        }
+    match Job::new(rt.alloc(), arguments.request) {
+        Ok(mut job) => obey(rt, arguments, &mut job),
+        Err(Mistake::Memory) => Err(Mistake::Memory.into()),
+        Err(mistake) => Ok(misused(rt, mistake)),
     }
+}
+
+/// Does the job for the inputs that the arguments name.
+fn obey(rt: &HostRuntime, arguments: &Arguments<'_>, job: &mut Job<'_>) -> Result<ExitCode> {
+    give_hint(rt, arguments.request.command);
     let names = inputs_of(arguments);
-    let printed = match arguments.target {
+    match arguments.target {
         Target::Output => {
             if let Some(name) = first_output(rt, names) {
                 let shown = shown_name(name);
                 return Ok(misused(rt, format_args!("replacer: {shown}: {IS_OUTPUT}")));
             }
-            print_files(rt, &mut job, names)
+            status_after(print_files(rt, job, names))
         }
-        Target::Files(suffix) => Ok(replace_files(rt, &mut job, names, suffix)),
-    };
-    match printed {
+        Target::Files(suffix) => status_after(Ok(replace_files(rt, job, names, suffix))),
+    }
+}
+
+/// Says what a template may mean otherwise than its author thinks. If that cannot be written, nothing else changes.
+fn give_hint(rt: &HostRuntime, command: Command<'_>) {
+    if let Command::Replace(template) = command {
+        if has_foreign(template) {
+            let _ = eprintln!(rt; "replacer: {HINT}");
+        }
+    }
+}
+
+/// Returns the status after the job was done. It failed for one of the inputs, or not, or the output could not be
+/// written.
+fn status_after(done: Result<bool, Failure>) -> Result<ExitCode> {
+    match done {
         Ok(false) => Ok(ExitCode::SUCCESS),
         Ok(true) => Ok(ExitCode::from(FAILED)),
         Err(error) if is_closed_pipe(&error) => Ok(ExitCode::SUCCESS),

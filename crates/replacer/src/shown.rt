@@ -17,7 +17,7 @@ use nfa_meta::interpolate::Template;
 use std::alloc::{AllocError, Global};
 
 /// What is printed of a line, and how many more matches may be replaced after it, if there is a limit.
-#[derive(Debug, Drop)]
+#[derive(Drop)]
 pub struct Shown {
     pub text: Vec<u8>,
     pub left: Option<usize>,
