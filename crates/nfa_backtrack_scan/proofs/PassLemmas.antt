@@ -1,5 +1,5 @@
 -- The starts that are passed over, the first turn of a walk from the others, and what a walk means for the search.
-use Rattle.nfa_paths.proofs.Common.{◌≡◌, ℕ, suc, zero, ◌+◌, ◌-◌, ◌<◌, ◌≤◌, inl, inr, List, ◌∷◌, map, sym, arith, subst, Some, None, Bool, cases_lt, Search, Automaton, Pair, IsFirst, start_state, starts, pairs_from, edges, is_match, space, Task, Slots, ExploresTo, Explore, [], length, replicate, false, half_found_of, HalfMatch, raised, IsScanAnswer, LeftmostFirst, GivesPath, marked_sum, ◌∙◌, get_or, set, set-set, refl, Option, slice_get, Path, capture, node_at, slot_of, Hit, found, Capture, Restore, stop, go}
+use Rattle.nfa_paths.proofs.Common.{◌≡◌, ℕ, suc, zero, ◌+◌, ◌-◌, ◌<◌, ◌≤◌, inl, inr, List, ◌∷◌, map, sym, arith, subst, Some, None, Bool, cases_lt, Search, Automaton, Pair, IsFirst, start_state, starts, pairs_from, edges, is_match, space, Task, Slots, ExploresTo, Explore, [], length, replicate, false, half_found_of, HalfMatch, raised, IsScanAnswer, LeftmostFirst, GivesPath, marked_sum, sum, max_scan_turns, ◌∙◌, get_or, set, set-set, refl, Option, slice_get, Path, NoPath, IsMatch, capture, node_at, slot_of, Hit, found, Capture, Restore, stop, go}
 use Rattle.nfa_paths.proofs.StartLemmas.{pairs_from-step, node_at-get}
 use Rattle.nfa_scan_core.specs.Marks.{Marks}
 use Rattle.nfa_scan_core.specs.FirstBytes.{IsRefused, IsFirstBytes}
@@ -103,6 +103,23 @@ module _ (nfa : Automaton) (x : Search) where
 
 -- what bounds the turns of a scan
 pub ruleset turn_bounds = (sum-weights, marked_sum-le)
+
+-- a walk from a start, after those from the starts before it
+pub turns-walked : (nfa : Automaton) (x : Search) (old turns now at : ℕ) (bits : List Bool)
+    → now + marked_sum (weights nfa x) bits ≤ turns + 1 + sum (weights nfa x)
+    → turns ≤ old + (at - x.start) + marked_sum (weights nfa x) bits → x.start ≤ at → at ≤ x.end
+    → now ≤ old + max_scan_turns nfa x
+turns-walked nfa x old turns now at bits bounded tried low high = grind (arith, turn_bounds)
+
+-- the walks from all starts
+pub turns-tried : (nfa : Automaton) (x : Search) (old turns at : ℕ) (bits : List Bool)
+    → turns ≤ old + (at - x.start) + marked_sum (weights nfa x) bits → x.start ≤ at → at ≤ x.end + 1
+    → turns ≤ old + max_scan_turns nfa x
+turns-tried nfa x old turns at bits tried low high = grind (arith, turn_bounds)
+
+-- with no start there is no path
+pub no-path : (nfa : Automaton) (x : Search) → starts nfa x ≡ [] → NoPath (edges nfa x) (starts nfa x) (IsMatch nfa)
+no-path nfa x none m p path wanted = absurd (rw none at path.among)
 
 -- the same after some restarts, if there are as many marks as before
 pub room-after : (nfa : Automaton) (x y : Search) (i : ℕ) (bits after : List Bool) → length after ≡ length bits → y

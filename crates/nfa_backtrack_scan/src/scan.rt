@@ -60,7 +60,6 @@ fn state_pos_at(
 }
 
 /// Searches from each start in turn that is not skipped for its byte, with the marks kept.
-#[tactic(auto, using(crate::proofs::PassLemmas::turn_bounds))]
 fn try_starts(
     nfa: &NFA,
     first: &FirstBytes,

@@ -1,11 +1,13 @@
 -- The kept states of a position, followed one after the other.
-use Rattle.nfa_pikevm_scan.proofs.Common.{Active, All, All-cons, All-head, All-nil, All-tail, Automaton, Bool, ClosureContext, ClosureGives, ClosureOutput, ClosuresGive, ClosuresLeadTo, Explore, FollowEpsilon, Follows, Frontier, HasRoom, IsClosureContext, KeepsRoom, List, Load, Marks, MayCross, MayFollow, Moment, PatternID, Search, Slots, Task, Threads, [], ap, arith, between, drop, drop-drop, drop_all, drop_more, edges, false, get_or, items_of, length, length-drop, length-replicate, length-take, length-take-le, moment_of, moves, none, refl, search_of, sym, take, tasks, unmarked, work_onto, ℕ, ◌*◌, ◌++◌, ◌+◌, ◌<◌, ◌∙◌, ◌∷◌, ◌≡◌, ◌≤◌}
+use Rattle.nfa_pikevm_scan.proofs.Common.{Active, All, All-cons, All-head, All-nil, All-tail, Automaton, Bool, ClosureContext, ClosureGives, ClosureOutput, ClosuresGive, ClosuresLeadTo, Explore, FollowEpsilon, Follows, Frontier, HasRoom, IsClosureContext, KeepsRoom, List, Load, Marks, MayCross, MayFollow, Moment, Parts, PatternID, Search, Slots, StatesGive, Task, Threads, [], ap, arith, between, drop, drop-drop, drop_all, drop_more, edges, false, get_or, held, items_of, length, length-drop, length-replicate, length-take, length-take-le, moment_of, moves, none, refl, search_of, sym, take, tasks, unmarked, work_onto, ℕ, ◌*◌, ◌++◌, ◌+◌, ◌<◌, ◌∙◌, ◌∷◌, ◌≡◌, ◌≤◌}
+use Rattle.std.specs.Global.{Vec}
+use Rattle.std.specs.Vec.{with_items}
 use Rattle.std.proofs.Math.Nat.{mul-le-mul_right}
 use Rattle.std.proofs.lemmas.Slice.{drop-put_mid}
 use borrow.Rule.Slice.PartMut.{put_mid}
 use Rattle.nfa_pikevm_scan.proofs.ClosureLemmas.{Follows-load, Follows-none, Follows-then, HasRoom-paid, moves-append}
 use Rattle.nfa_pikevm_scan.proofs.FrontierLemmas.{Formed-none}
-use Rattle.nfa_pikevm_scan.proofs.RowLemmas.{drop-items_of, length-items_of}
+use Rattle.nfa_pikevm_scan.proofs.RowLemmas.{active_of, drop-items_of, length-items_of}
 use Rattle.nfa_pikevm_scan.proofs.SinkLemmas.{Takes-then}
 
 -- rows
@@ -167,6 +169,74 @@ ClosuresGive-one {ended = ended} empty clear one a = record {
   leads = Closures-next one (Closures-begin empty clear) a;
   whole = λ _. refl;
 }
+
+-- the marks of a position are cleared before its states are followed
+module _ {nfa : Automaton} {x : Search} {at : ℕ} where
+  StatesGive-marked : {a b new : Moment} {goes : Type 0} {left : List (ℕ × Slots)} {front : Frontier}
+      → unmarked a.met ≡ unmarked b.met → a.kept ≡ b.kept → StatesGive nfa x at a goes left front new
+      → StatesGive nfa x at b goes left front new
+  StatesGive-marked marks kept g = record {
+    added = g.added;
+    formed = g.formed;
+    paid = rw (← marks, ← kept) g.paid;
+    leads = λ current below waiting. rw (← marks, ← kept) (g.leads current below waiting);
+  }
+
+  pub ClosuresGive-cleared : {V : Type 0} {takes : V → PatternID → Slots → Bool → V → Type 0} {width : ℕ} {met : Marks}
+      {old new : V} {then : Moment} (wide : ℕ) (states : List ℕ) (cells : Slots) (t : Threads)
+      → met ≡ unmarked t.reached.seen → wide ≡ width → items_of wide states cells ≡ t.curr.items
+      → ClosuresGive nfa x takes at (between met (items_of width states cells) []) old then new
+      → ClosuresGive nfa x takes at (held t []) old then new
+  ClosuresGive-cleared wide states cells t seen same is g =
+      let twice : unmarked (unmarked t.reached.seen) ≡ unmarked t.reached.seen =
+      rw (length-replicate (length t.reached.seen.bits) false) refl in
+      record {
+        ended = g.ended;
+        left = g.left;
+        leads = record {
+          front = g.leads.front;
+          gives = StatesGive-marked (rw seen twice) (rw (← same) is) g.leads.gives;
+          takes_all = g.leads.takes_all;
+        };
+        whole = g.whole;
+      }
+
+-- slots that were written into a vector keep its length
+length-written : {X : Type 0} (v : Vec X) (ws : List X) → length (with_items v ws).items ≡ length v.items
+length-written v ws = sym (with_items v ws).ok.0 ∙ v.ok.0
+
+-- the threads after the states in the parts `p` were followed, which wrote `rows`
+module _ (t : Threads) (p : Parts) (view : active_of p.width p.kept.items p.rows.items p.len ≡ t.curr) (rows : Slots)
+  where
+    pub width-followed : p.width ≡ t.curr.width
+    width-followed = ap (λ (a : Active). a.width) view
+
+    pub cells-followed : length (with_items p.rows rows).items ≡ t.curr.cells
+    cells-followed = length-written p.rows rows ∙ ap (λ (a : Active). a.cells) view
+
+    pub inside-followed : (p.len ≤ length p.kept.items) × (length p.kept.items * p.width ≤ length p.rows.items)
+        → (p.len ≤ length p.kept.items) × (length p.kept.items * p.width ≤ length (with_items p.rows rows).items)
+    inside-followed inside = (inside.0, rw (length-written p.rows rows) inside.1)
+
+    module _ {met : Marks} {new : ClosureOutput} (keeps : KeepsRoom (record { seen = met; next = t.reached.next }) new)
+      where
+        pub capacity-next : new.next.capacity ≡ length p.kept.items
+        capacity-next =
+            ap (λ (a : Active). a.capacity) keeps.same ∙ t.same_capacity ∙ sym (ap (λ (a : Active). a.capacity) view)
+
+        pub cells-next : new.next.cells ≡ length (with_items p.rows rows).items
+        cells-next = ap (λ (a : Active). a.cells) keeps.same ∙ t.same_cells ∙ sym cells-followed
+
+        pub width-next : new.next.width ≡ p.width
+        width-next = ap (λ (a : Active). a.width) keeps.same ∙ t.same_width ∙ sym width-followed
+
+        pub marks-followed : met ≡ unmarked t.reached.seen → length new.seen.bits ≡ length t.reached.seen.bits
+        marks-followed cleared =
+            keeps.size ∙ ap (λ (m : Marks). length m.bits) cleared ∙ length-replicate (length t.reached.seen.bits) false
+
+        pub frames-followed : (frames : List FollowEpsilon)
+            → length (with_items t.frames frames).items ≡ length t.frames.items
+        frames-followed frames = length-written t.frames frames
 
 -- there is room for what the next state leads to
 pub HasRoom-next : {V : Type 0} {here : ClosureContext} {x : Search} {takes : V → PatternID → Slots → Bool → V → Type 0}

@@ -14,7 +14,6 @@ ghost use Rattle.nfa_pikevm_scan.specs.States.{NextsGive};
 ghost use Rattle.nfa_pikevm_scan.specs.Sinks.{ClosuresGive};
 ghost use Rattle.nfa_pikevm_scan.specs.Scans.{blank, held, HaveRows, KeepsThreads, MayCross, SameSizes};
 
-use crate::active::Parts;
 use crate::closure::{ClosureContext, ClosureOutput, epsilon_closure, next_match};
 use crate::frame::FollowEpsilon;
 use crate::scan::Starts;
@@ -86,6 +85,44 @@ fn nexts_of_states<T: MatchSink>(
     }
 }
 
+/// [`nexts_of_states`], with one call where there is a byte and one where there is none, so that the loop over the
+/// states does not test it at each one.
+#[inline(always)]
+fn nexts_by_case<T: MatchSink>(
+    here: &ClosureContext<'_, '_>,
+    kept: &[StateID],
+    rows: &mut [Slot],
+    frames: &mut [FollowEpsilon],
+    reached: &mut ClosureOutput,
+    sink: &mut T,
+)
+    requires ready { MayFollow here.now kept.now reached.old (length frames.old) (T.row_width sink.old) }
+    requires rows { length kept.now * T.row_width sink.old ≤ length rows.old }
+    ensures keeps { KeepsRoom reached.old reached.new }
+    ensures grows { reached.old.seen.turns ≤ reached.new.seen.turns }
+    ensures same_reference { T.reference sink.new ≡ T.reference sink.old }
+    ensures arrive { ClosuresGive here.now.nfa.now (search_of here.now.input.now) T.takes here.now.at
+        (between reached.old.seen (items_of (T.row_width sink.old) kept.now rows.old) []) sink.old
+        (moment_of reached.new [] []) sink.new }
+{
+    match here.byte {
+        Some(byte) => {
+            let before = ClosureContext {
+                byte: Some(byte),
+                ..*here
+            };
+            nexts_of_states(&before, kept, rows, frames, reached, sink);
+        }
+        None => {
+            let end = ClosureContext {
+                byte: None,
+                ..*here
+            };
+            nexts_of_states(&end, kept, rows, frames, reached, sink);
+        }
+    }
+}
+
 /// Follows the states at the position, gives their matches to the sink, and keeps the states that the position's byte
 /// leads to for the next one.
 #[inline(always)]
@@ -112,32 +149,21 @@ pub fn nexts_with<T: MatchSink>(
         ..
     } = threads;
     reached.seen.clear();
-    let Parts {
-        kept,
-        rows,
-        len,
-        ..
-    } = &mut *curr.parts;
-    let kept = &kept.as_slice()[..*len];
-    let rows = rows.as_mut_slice();
-    let frames = frames.as_mut_slice();
-    let end = ClosureContext {
+    let parts = &mut *curr.parts;
+    let here = ClosureContext {
         nfa,
         input,
         at,
-        byte: None,
+        byte: byte_at(input, at),
     };
-    // One call for each case, so that the loop over the states does not test at each one whether there is a byte.
-    match byte_at(input, at) {
-        Some(byte) => {
-            let here = ClosureContext {
-                byte: Some(byte),
-                ..end
-            };
-            nexts_of_states(&here, kept, rows, frames, reached, sink);
-        }
-        None => nexts_of_states(&end, kept, rows, frames, reached, sink),
-    }
+    nexts_by_case(
+        &here,
+        &parts.kept.as_slice()[..parts.len],
+        parts.rows.as_mut_slice(),
+        frames.as_mut_slice(),
+        reached,
+        sink,
+    );
 }
 
 /// Follows the states at the position, and goes on to those that its byte leads to. Returns the last match, and writes

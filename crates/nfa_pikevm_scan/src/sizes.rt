@@ -1,10 +1,12 @@
 //! The room that an NFA needs.
-ghost use Rattle.std.specs.Prelude.{◌≡◌, ◌^◌, ◌≤◌, IfSome, IfNone, IsOk, OnOk, OnErr, length, max};
+ghost use Rattle.std.specs.Prelude.{◌≡◌, ◌^◌, ◌≤◌, None, IfSome, IfNone, IsOk, OnOk, OnErr, length, max, replicate};
+ghost use Rattle.std.specs.Prelude.{vec_capacity};
 ghost use Rattle.std.specs.List.{sum_by};
 ghost use Rattle.thompson_nfa.specs.Automaton.{node_of};
 ghost use Rattle.nfa_pikevm_scan.specs.Needs.{room_of, stack_frames};
 ghost use Rattle.nfa_pikevm_scan.specs.Scans.{sizes_for, sizes_of, Holds, IsSize, IsSizeOf, IsTooLarge};
 
+use crate::active::Parts;
 use crate::frame::FollowEpsilon;
 use crate::room::{refill, reserve};
 use crate::slot::Slot;
@@ -73,6 +75,36 @@ pub fn size_for(nfa: &NFA) -> Option<Size>
     })
 }
 
+/// Makes room for the states and the cells of a set, and changes none. Fails only if a part has to grow.
+fn reserve_parts(parts: &mut Parts, size: &Size) -> Result<(), Refused>
+    ensures granted { size.now.capacity ≤ length parts.old.kept.items → size.now.cells ≤ length parts.old.rows.items
+        → IsOk result }
+    ensures kept { parts.new.kept.items ≡ parts.old.kept.items }
+    ensures rows { parts.new.rows.items ≡ parts.old.rows.items }
+    ensures len { parts.new.len ≡ parts.old.len }
+    ensures width { parts.new.width ≡ parts.old.width }
+    ensures states { OnOk result (size.now.capacity ≤ vec_capacity parts.new.kept) }
+    ensures cells { OnOk result (size.now.cells ≤ vec_capacity parts.new.rows) }
+{
+    reserve(&mut parts.kept, size.capacity)?;
+    reserve(&mut parts.rows, size.cells)
+}
+
+/// Removes all states of a set, and gives its parts exactly these sizes. Requires room for them.
+fn refill_parts(parts: &mut Parts, size: &Size, filler: StateID)
+    requires states { size.now.capacity ≤ vec_capacity parts.old.kept }
+    requires cells { size.now.cells ≤ vec_capacity parts.old.rows }
+    ensures kept { parts.new.kept.items ≡ replicate size.now.capacity filler }
+    ensures rows { parts.new.rows.items ≡ replicate size.now.cells None }
+    ensures len { parts.new.len ≡ 0 }
+    ensures width { parts.new.width ≡ 0 }
+{
+    parts.len = 0;
+    parts.width = 0;
+    refill(&mut parts.kept, size.capacity, filler);
+    refill(&mut parts.rows, size.cells, Slot::unset());
+}
+
 /// Gives the parts of a cache exactly these sizes. All memory is allocated before anything changes. Fails only if a
 /// part has to grow.
 pub fn make_room(
@@ -96,27 +128,15 @@ pub fn make_room(
 {
     reserve(&mut threads.frames, size.frames)?;
     reserve(&mut threads.reached.seen.stamps, size.states)?;
-    reserve(&mut threads.curr.parts.kept, size.capacity)?;
-    reserve(&mut threads.curr.parts.rows, size.cells)?;
-    reserve(&mut threads.reached.next.parts.kept, size.capacity)?;
-    reserve(&mut threads.reached.next.parts.rows, size.cells)?;
+    reserve_parts(&mut *threads.curr.parts, size)?;
+    reserve_parts(&mut *threads.reached.next.parts, size)?;
     reserve(found, size.slots)?;
     let unused = FollowEpsilon::Explore { sid: filler };
     refill(&mut threads.frames, size.frames, unused);
     refill(&mut threads.reached.seen.stamps, size.states, 0);
     threads.reached.seen.newest = 1;
-    threads.curr.parts.len = 0;
-    threads.curr.parts.width = 0;
-    refill(&mut threads.curr.parts.kept, size.capacity, filler);
-    refill(&mut threads.curr.parts.rows, size.cells, Slot::unset());
-    threads.reached.next.parts.len = 0;
-    threads.reached.next.parts.width = 0;
-    refill(&mut threads.reached.next.parts.kept, size.capacity, filler);
-    refill(
-        &mut threads.reached.next.parts.rows,
-        size.cells,
-        Slot::unset(),
-    );
+    refill_parts(&mut *threads.curr.parts, size, filler);
+    refill_parts(&mut *threads.reached.next.parts, size, filler);
     refill(found, size.slots, Slot::unset());
     Ok(())
 }

@@ -1,8 +1,8 @@
 -- The result of the search from all starts, and the most turns that it takes.
 use Rattle.nfa_paths.proofs.Common.{◌≡◌, ◌∙◌, ◌+◌, ◌-◌, ◌<◌, ◌≤◌, length, replicate, map, arith, sym, ap, refl, None, search_of, pairs_from, Explore}
-use Rattle.nfa_paths.proofs.StartLemmas.{pairs_from-step, pairs_from-end}
+use Rattle.nfa_paths.proofs.StartLemmas.{pairs_from-step, pairs_from-end, starts-none as starts-over}
 use Rattle.nfa_backtrack_scan.specs.Walk.{walk_of}
-use Rattle.nfa_backtrack_scan.proofs.PassLemmas.{Carries-first, Carries-pass, starts-none, starts-some}
+use Rattle.nfa_backtrack_scan.proofs.PassLemmas.{Carries-first, Carries-pass, no-path, starts-none, starts-some, turns-tried, turns-walked}
 use Rattle.nfa_backtrack_scan.proofs.WalkLemmas.{Carries-then, Carries-ends, Ends-none, EndsAt-along}
 use Rattle.nfa_backtrack_scan.proofs.scan.try_starts.Goals as goal
 
@@ -77,3 +77,38 @@ returns-clause-answer c =
     c.requires.ready.clear c.loop-at.scratch.visited.turns
     (Carries-ends follows
     (Ends-none c.args.nfa.now (search_of c.args.input.now) c.loop-at.scratch.visited c.loop-at.slots))
+
+pub returns-then-is_done-clause-turns : goal.returns-then-is_done-clause-turns
+returns-then-is_done-clause-turns c = omega arith
+
+pub returns-in_default-clause-turns : goal.returns-in_default-clause-turns
+returns-in_default-clause-turns c = omega arith
+
+pub returns-in_err-half-clause-turns : goal.returns-in_err-half-clause-turns
+returns-in_err-half-clause-turns c =
+    turns-walked c.args.nfa.now (search_of c.args.input.now) c.args.scratch.now.visited.turns
+    c.loop-at.scratch.visited.turns c.walk.new.scratch.visited.turns c.loop-at.at c.loop-at.scratch.visited.bits
+    c.walk.ensures.bounded c.loop-at.invariant.tried c.loop-at.invariant.low
+    (omega (arith, c.loop-at-test.true, c.start_limit-limit.ensures.high))
+
+pub returns-in-Some-2-clause-turns : goal.returns-in-Some-2-clause-turns
+returns-in-Some-2-clause-turns c =
+    turns-walked c.args.nfa.now (search_of c.args.input.now) c.args.scratch.now.visited.turns
+    c.loop-at.scratch.visited.turns c.walk.new.scratch.visited.turns c.loop-at.at c.loop-at.scratch.visited.bits
+    c.walk.ensures.bounded c.loop-at.invariant.tried c.loop-at.invariant.low
+    (omega (arith, c.loop-at-test.true, c.start_limit-limit.ensures.high))
+
+pub returns-clause-turns : goal.returns-clause-turns
+returns-clause-turns c =
+    turns-tried c.args.nfa.now (search_of c.args.input.now) c.args.scratch.now.visited.turns
+    c.loop-at.scratch.visited.turns c.loop-at.at c.loop-at.scratch.visited.bits c.loop-at.invariant.tried
+    c.loop-at.invariant.low c.loop-at.invariant.high
+
+pub returns-then-is_done-clause-answer : goal.returns-then-is_done-clause-answer
+returns-then-is_done-clause-answer c =
+    let x = search_of c.args.input.now in
+    no-path c.args.nfa.now x (starts-over c.args.nfa.now x (c.is_done.ensures.0 c.if-is_done.true))
+
+pub returns-in_default-clause-answer : goal.returns-in_default-clause-answer
+returns-in_default-clause-answer c =
+    no-path c.args.nfa.now (search_of c.args.input.now) (rw (sym c.start_state.ensures.value ∙ c.in_default.is) refl)

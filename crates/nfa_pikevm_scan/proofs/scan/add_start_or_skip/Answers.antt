@@ -2,7 +2,7 @@
 use Rattle.nfa_scan_core.proofs.FirstLemmas.{byte_at-inside}
 use Rattle.nfa_pikevm_scan.proofs.RowLemmas.{AddsStart-passes, none_of}
 use Rattle.nfa_pikevm_scan.proofs.scan.add_start_or_skip.Goals as goal
-use Rattle.nfa_pikevm_scan.proofs.Common.{IsRefused, arith, get_or, inr, length, refl, search_of, ◌<◌, ◌≤◌}
+use Rattle.nfa_pikevm_scan.proofs.Common.{Active, IsRefused, ap, arith, get_or, inr, length, refl, search_of, sym, ◌<◌, ◌∙◌, ◌≤◌}
 
 pub returns-then-is_empty-2-clause-joins : goal.returns-then-is_empty-2-clause-joins
 returns-then-is_empty-2-clause-joins c = grind (arith, none_of, AddsStart-passes)
@@ -23,4 +23,24 @@ returns-else-not-refuses-clause-joins c =
       passed = λ k h l. absurd (omega arith);
       passes = λ p. refl;
       last = inr (refl, inr (c.if-at-starts.false, here));
+    }
+
+pub invariant_of-threads : goal.invariant_of-threads
+invariant_of-threads c =
+    let threads = c.args.threads.now in
+    let pushed = c.push_blank.ensures in
+    record {
+      same_capacity = threads.same_capacity ∙ sym (ap (λ (a : Active). a.capacity) pushed);
+      same_cells = threads.same_cells ∙ sym (ap (λ (a : Active). a.cells) pushed);
+      same_width = threads.same_width ∙ sym (ap (λ (a : Active). a.width) pushed);
+    }
+
+pub invariant_of-threads-then-at-starts : goal.invariant_of-threads-then-at-starts
+invariant_of-threads-then-at-starts c =
+    let threads = c.args.threads.now in
+    let pushed = c.push_blank-then-at-starts.ensures in
+    record {
+      same_capacity = threads.same_capacity ∙ sym (ap (λ (a : Active). a.capacity) pushed);
+      same_cells = threads.same_cells ∙ sym (ap (λ (a : Active). a.cells) pushed);
+      same_width = threads.same_width ∙ sym (ap (λ (a : Active). a.width) pushed);
     }
