@@ -1,10 +1,12 @@
 -- The captures of a whole text, the first of them, and those that steps give.
 use Rattle.std.specs.Prelude.{not}
-use Rattle.nfa_paths.proofs.Common.{◌≡◌, ◌<◌, ◌≤◌, inl, inr, ℕ, zero, suc, List, [], ◌∷◌, ◌++◌, Bool, false, true, Ok, Result, map, take, arith, refl, subst, All, Option, None, Some, take-map, Found, Search, whole, Captured}
-use Rattle.nfa_search_base.specs.Common.{AnswersRow, AreRows, CapturesGiven, CapturesInside, HasGroups, MutBor, StepsWith, WithCache, WithCaptures, Yields, held_unless, items_left, match_in, steps_iter_state, AreDisjoint, row_of, with_cache}
+use Rattle.nfa_paths.proofs.Common.{◌≡◌, ◌∙◌, ◌<◌, ◌≤◌, inl, inr, ℕ, zero, suc, List, [], ◌∷◌, ◌++◌, Bool, false, true, Ok, Result, map, take, ap, arith, length, refl, subst, sym, take_at, All, All-append, All-cons, All-map, All-nil, Automaton, MatchKind, Option, None, Some, take-map, Found, Search, whole, Captured}
+use Rattle.nfa_search_base.specs.Common.{AnswersRow, AreFirstRows, AreRows, CapturesGiven, Fails, ItemsLast, IterState, Row, after, fresh, row_span, CapturesInside, HasGroups, MutBor, StepsWith, WithCache, WithCaptures, Yields, held_unless, items_left, match_in, steps_iter_state, AreDisjoint, row_of, with_cache}
 use Rattle.nfa_search_base.specs.declared.error.SearchError.{SearchError}
 use Rattle.nfa_search_base.specs.declared.iter.steps.Steps.{Steps}
+use Rattle.nfa_search_base.proofs.CapturesLemmas.{one-row, rows-exist}
 use Rattle.nfa_search_base.proofs.DrainedLemmas.{given-drained, given-turn}
+use Rattle.nfa_search_base.proofs.ListLemmas.{as_items, step-asked, values-rest}
 use Rattle.nfa_search_base.proofs.StepLemmas.{chosen}
 use Rattle.nfa_choice.specs.ChoiceState.{ChoiceState, kind_in}
 use Rattle.nfa_choice.specs.Iterations.{CapturesNextBy}
@@ -47,6 +49,51 @@ first-after : (x : Search) (cs : List Captured) (c : Captured) → AreDisjoint x
     → end_after 0 cs ≤ (match_in c).start
 first-after x [] c h = omega arith
 first-after x (d ∷ cs) c h = next-after x (match_in d).end cs c h.2
+
+-- captures that hold a row
+abbrev caught_of : Automaton → Row → Captured
+caught_of nfa row = record { groups = nfa.groups; pattern = row.pattern; slots = row.slots }
+
+-- rows after captures, as captures
+rows-after : (nfa : Automaton) (cs : List Captured) (more : List Row)
+    → map row_of (cs ++ map (caught_of nfa) more) ≡ map row_of cs ++ more
+rows-after nfa [] [] = refl
+rows-after nfa [] (m ∷ more) = ap (λ (rows : List Row). m ∷ rows) (rows-after nfa [] more)
+rows-after nfa (c ∷ cs) more = ap (λ (rows : List Row). row_of c ∷ rows) (rows-after nfa cs more)
+
+-- the rows that follow some have the groups of the NFA
+more-groups : (nfa : Automaton) (kind : MatchKind) (rows more : List Row) (w : IterState)
+    → ItemsLast row_span (AnswersRow nfa kind false) (Fails row_span (AnswersRow nfa kind false)) w
+    (as_items (rows ++ more))
+    → All (λ row. HasGroups nfa (caught_of nfa row)) more
+more-groups nfa kind [] [] w h = All-nil (λ row. HasGroups nfa (caught_of nfa row))
+more-groups nfa kind [] (m ∷ more) w h =
+    let asked = step-asked row_span (AnswersRow nfa kind false) w (Ok (Some m)) h.0 in
+    All-cons (λ row. HasGroups nfa (caught_of nfa row)) m more (record { groups = refl; count = asked.3.count })
+    (more-groups nfa kind [] more (after w (Some (row_span m))) h.1)
+more-groups nfa kind (r ∷ rows) more w h = more-groups nfa kind rows more (after w (Some (row_span r))) h.1
+
+-- the captures of the text begin with captures whose rows are its first ones
+pub first-caught : (r : ChoiceState) (text : List ℕ) (cs : List Captured)
+    → AreFirstRows r.nfa (kind_in r) false (whole text) (map row_of cs) → All (HasGroups r.nfa) cs
+    → (all : List Captured) × AreAllCaught r text all × (take (length cs) all ≡ cs)
+first-caught r text cs first groups =
+    let tells = AnswersRow r.nfa (kind_in r) false in
+    let rows = rows-exist r.nfa (kind_in r) false (whole text) in
+    let rest = values-rest row_span tells (one-row r.nfa (kind_in r) false) (fresh (whole text)) (map row_of cs) rows.0
+    first.come rows.1.come in
+    let is = rest.1 ∙ sym (rows-after r.nfa cs rest.0) in
+    let come = subst (λ (these : List Row). ItemsLast row_span tells (Fails row_span tells) (fresh (whole text))
+    (as_items these)) rest.1 rows.1.come in
+    let more = map (caught_of r.nfa) rest.0 in (
+      cs ++ more,
+      record {
+        rows = subst (λ (these : List Row). AreRows r.nfa (kind_in r) false (whole text) these) is rows.1;
+        groups = All-append (HasGroups r.nfa) cs more groups (All-map (HasGroups r.nfa) (caught_of r.nfa) rest.0
+            (more-groups r.nfa (kind_in r) (map row_of cs) rest.0 (fresh (whole text)) come));
+      },
+      take_at cs more (length cs) refl,
+    )
 
 -- steps with the regex that they borrow, as an iterator that owns both
 module _ (b : MutBor RegexState) where
@@ -92,6 +139,13 @@ module _ (b : MutBor RegexState) where
         let turn = given-turn given cs last c t (all-called (map Ok cs) (with_cache steps r) last ran)
         (called last (Some (Ok c)) t call) in
         (turn.0, first-after (whole text) cs c turn.1)
+
+    -- their rows are the first of the text
+    pub steps-first : (cs : List Captured) (last : Stepping)
+        → Yields captures_call (with_cache steps r) (map Ok cs) last
+        → AreFirstRows r.choice.nfa (kind_in r.choice) false (whole text) (map row_of cs)
+    steps-first cs last ran =
+        given.first_rows (map Ok cs) last cs (all-called (map Ok cs) (with_cache steps r) last ran) refl
 
     -- at the end they were those of all matches
     pub steps-over : (cs : List Captured) (last t : Stepping)

@@ -1,14 +1,14 @@
 -- Calls of a function that appends what comes in place of a match.
 use Rattle.std.specs.Global.{Vec}
-use Rattle.nfa_paths.proofs.Common.{Bor, MutBor, All, ◌≡◌, ◌∙◌, ◌≤◌, ℕ, List, [], ◌∷◌, ◌++◌, IfOk, Err, Ok, Result, ap, arith, drop, length, refl, slice_range, subst, sym, append_assoc, recursion_from_All, AllByRecursion, whole, Captured}
+use Rattle.nfa_paths.proofs.Common.{Bor, MutBor, All, ◌≡◌, ◌∙◌, ◌≤◌, ℕ, List, [], ◌∷◌, ◌++◌, IfOk, Err, Ok, Result, ap, arith, drop, length, refl, slice_range, subst, sym, take, append_assoc, recursion_from_All, AllByRecursion, whole, Captured}
 use Rattle.std.proofs.Common.{append-nil}
 use Rattle.std.proofs.lemmas.Fn.{FoldsTo-push}
 use Rattle.std.specs.Fn.{Mut}
 use Rattle.std.specs.declared.alloc.AllocError.{AllocError}
 use Rattle.nfa_search_base.specs.Common.{CapturesInside, match_in}
 use Rattle.nfa_choice.specs.ChoiceState.{ChoiceState}
-use Rattle.nfa_meta.specs.Filled.{IsFilled, filled_from}
-use Rattle.nfa_meta.specs.Rewritten.{AppendsBy, CallsLeft, HasRewritten, HasRewrittenSoFar, IsRewrittenBy, RewritesFrom, Writes, WritesForMatch, WritesLead, end_after, rewritten}
+use Rattle.nfa_meta.specs.Filled.{IsFilled, IsFilledUpTo, filled_from}
+use Rattle.nfa_meta.specs.Rewritten.{AppendsBy, HasRewrittenSoFar, IsRewrittenBy, IsRewrittenUpToBy, RewritesFrom, Writes, WritesForMatch, WritesLead, end_after, rewritten}
 use Rattle.nfa_meta.specs.Templates.{filled}
 use Rattle.nfa_meta.specs.declared.interpolate.Part.{Part}
 
@@ -42,25 +42,6 @@ module _ {F : Type 0} (g : Mut F (Bor Captured × (MutBor (Vec ℕ) × Unit {0})
     caught = leads.caught ++ (c ∷ []);
     calls = FoldsTo-push (WritesForMatch g text) _ leads.caught _ c _ leads.calls (inside, before, after, w);
   }
-
-  -- The calls led to f, and captures c come next.
-  module _ {caught left rest : List Captured} {c : Captured} {f₀ f f' : F} {i from : ℕ} {output : List ℕ}
-      (so_far : HasRewritten g text caught left f₀ (record { replacement = f; output = output }) i from)
-      (is : left ≡ c ∷ rest) where
-    -- after one more call they go on as before
-    pub calls-go-on : {end : ℕ} {between : List ℕ} → end ≡ (match_in c).end
-        → Writes g f c (output ++ slice_range text from (match_in c).start) between f'
-        → (after : List ℕ) → RewritesFrom g text end rest f' between after → RewritesFrom g text 0 caught f₀ [] after
-    calls-go-on {end} {between} ends w after r =
-        let others = subst (λ (e : ℕ). RewritesFrom g text e rest f' between after) ends r in
-        so_far.goes_on after (subst (λ (cs : List Captured). RewritesFrom g text from cs f output after) (sym is)
-        (f', between, w, others))
-
-    -- and lead to one more state
-    pub calls-lead-on : {before after : List ℕ} → Writes g f c before after f' → WritesLead g text f₀ f'
-    calls-lead-on w =
-        let inside = subst (AllByRecursion (CapturesInside (whole text))) is so_far.inside in
-        WritesLead-last so_far.leads inside.0 w
 
   -- before the first call
   pub so_far-none : (f : F) (output : List ℕ) → output ≡ []
@@ -137,3 +118,14 @@ filled-by r text parts (Ok output) by = record {
   output_is = by.output_is ∙ rewritten-filled text parts 0 by.caught;
 }
 filled-by r text parts (Err error) by = tt
+
+pub filled-up_to : (r : ChoiceState) (text : List ℕ) (limit : ℕ) (parts : List Part)
+    (result : Result (Vec ℕ) AllocError)
+    → IfOk result (λ output. IsRewrittenUpToBy r text limit (λ c. filled text c parts) output.items)
+    → IfOk result (λ output. IsFilledUpTo r text limit parts output.items)
+filled-up_to r text limit parts (Ok output) by = record {
+  caught = by.caught;
+  all = by.all;
+  output_is = by.output_is ∙ rewritten-filled text parts 0 (take limit by.caught);
+}
+filled-up_to r text limit parts (Err error) by = tt

@@ -1,11 +1,10 @@
 -- A text with what a function appends in place of its matches.
-use Rattle.std.specs.Prelude.{◌≡◌, ◌≤◌, ℕ, List, [], ◌∷◌, ◌++◌, Ok, Result, drop, length, map, slice_range, take}
+use Rattle.std.specs.Prelude.{◌≡◌, ◌≤◌, ℕ, List, [], ◌∷◌, ◌++◌, Ok, Result, drop, length, slice_range, take}
 use Rattle.std.specs.Global.{Vec}
 use Rattle.std.specs.declared.alloc.AllocError.{AllocError}
-use Rattle.nfa_search_base.specs.Common.{Bor, MutBor, Called, Mut, AllByRecursion, FoldsTo, whole, Captured, CapturesInside, match_in, AreDisjoint}
+use Rattle.nfa_search_base.specs.Common.{Bor, MutBor, Called, Mut, FoldsTo, whole, Captured, CapturesInside, match_in}
 use Rattle.nfa_choice.specs.ChoiceState.{ChoiceState}
 use Rattle.nfa_meta.specs.Filled.{AreAllCaught}
-use Rattle.nfa_meta.specs.Gaps.{last_end}
 
 -- the text from an offset on, with what h gives for these captures in place of the match of each
 abbrev pub rewritten : List ℕ → (Captured → List ℕ) → ℕ → List Captured → List ℕ
@@ -78,18 +77,6 @@ module _ {F : Type 0} (g : Mut F (Bor Captured × (MutBor (Vec ℕ) × Unit {0})
   RewritesFrom text from (c ∷ cs) f before after = (f' : F) × (between : List ℕ)
       × Writes f c (before ++ slice_range text from (match_in c).start) between f'
       × RewritesFrom text (match_in c).end cs f' between after
-
-  -- The calls so far, from f on, left this: if the calls for the captures that are left lead on to an output, all calls
-  -- do.
-  pub record HasRewritten (text : List ℕ) (caught left : List Captured) (f : F) (now : CallsLeft F) (i from : ℕ)
-      : Type 0 where
-    pub goes_on : (after : List ℕ) → RewritesFrom text from left now.replacement now.output after
-        → RewritesFrom text 0 caught f [] after
-    pub leads : WritesLead text f now.replacement
-    pub begins : i ≡ 0 → from ≡ 0
-    pub within : from ≤ length text
-    pub inside : AllByRecursion (CapturesInside (whole text)) left
-    pub apart : AreDisjoint (whole text) (last_end i from) (map match_in left)
 
   -- The calls for these captures, from f on, left this: if calls for more captures lead on to an output, all calls do.
   pub record HasRewrittenSoFar (text : List ℕ) (caught : List Captured) (f : F) (now : CallsLeft F) (from : ℕ)

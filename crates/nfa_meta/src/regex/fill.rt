@@ -116,9 +116,9 @@ impl Regex {
         if limit == 0 {
             return self.replace_all_template(alloc, haystack, template);
         }
-        let caught = self.first_captures(alloc, Input::new(haystack), limit)?;
-        let output = template.fill_all(alloc, haystack, caught)?;
-        Ok(output)
+        self.replacen_with(alloc, haystack, limit, |captures, output| {
+            template.fill(haystack, captures, output)
+        })
     }
 }
 

@@ -1,25 +1,22 @@
 //! A text with what a function appends in place of its matches.
-ghost use Rattle.std.specs.Prelude.{◌≡◌, ◌<◌, ◌≤◌, ◌++◌, All, IfOk, List, None, OnOk, [], map, ℕ};
-ghost use Rattle.regex_search_core.specs.Search.{whole};
+ghost use Rattle.std.specs.Prelude.{◌≡◌, ◌<◌, ◌≤◌, ◌++◌, IfOk, List, drop, length, ℕ};
 ghost use Rattle.regex_search_core.specs.Slots.{Captured};
-ghost use Rattle.nfa_search_base.specs.Runs.{CapturesInside, match_in};
-ghost use Rattle.nfa_search_base.specs.Lists.{AreDisjoint};
 ghost use Rattle.nfa_meta.specs.CapturesSteps.{BeginsCaptures};
 ghost use Rattle.nfa_meta.specs.RegexState.{KeepsRegex};
 ghost use Rattle.nfa_meta.specs.Rewritten.{AppendsBy, IsRewritten, IsRewrittenBy, IsRewrittenUpTo};
-ghost use Rattle.nfa_meta.specs.Rewritten.{IsRewrittenUpToBy, RewritesFrom, TakesMatchesOf};
+ghost use Rattle.nfa_meta.specs.Rewritten.{IsRewrittenUpToBy, TakesMatchesOf};
 
 use crate::interpolate::copy_to_match;
 use crate::regex::Regex;
 use crate::regex::captures_iter::{CapturesFinder, captures_in, next_captures};
 use nfa_engines::iter::Steps;
-use regex_search_core::{Captures, Input};
+use regex_search_core::Captures;
 use std::alloc::{AllocError, Global};
 
 impl Regex {
     /// Returns the haystack with what the function appends to the output, for the captures of each match, in place of
-    /// the match. The function is called once for each match, from left to right. The only errors are that allocation
-    /// failed, and those of the function.
+    /// the match. The function is called once for each match, from left to right. It is lent the captures, so no match
+    /// is copied. The only errors are that allocation failed, and those of the function.
     ///
     /// ```
     /// // regex of "(?<y>[0-9]{4})-(?<m>[0-9]{2})"
@@ -54,7 +51,8 @@ impl Regex {
     }
 
     /// Returns the haystack with what the function appends, for their captures, in place of its first matches: at most
-    /// `limit`, and all if `limit` is 0. The only errors are that allocation failed, and those of the function.
+    /// `limit`, and all if `limit` is 0. Searches for no more matches than it replaces. The only errors are that
+    /// allocation failed, and those of the function.
     ///
     /// ```
     /// // regex of "[0-9]+"
@@ -85,9 +83,8 @@ impl Regex {
         if limit == 0 {
             return self.replace_all_with(alloc, haystack, replacement);
         }
-        let caught = self.first_captures(alloc, Input::new(haystack), limit)?;
-        let output = rewrite(alloc, haystack, caught, replacement)?;
-        Ok(output)
+        let steps = self.begin_captures(alloc, haystack)?;
+        rewrite_first(self, steps, alloc, haystack, limit, replacement)
     }
 }
 
@@ -118,33 +115,48 @@ where
         replacement(captures, &mut output)?;
         from = end;
     }
-    output.extend_from_slice(&haystack[from..])?;
-    Ok(output)
+    with_rest(output, haystack, from)
 }
 
-/// Returns the haystack with what the function appends for these captures in place of the match of each.
-#[tactic(auto, using(std::proofs::lemmas::List::Elements::recursion_from_All))]
-fn rewrite<F>(
+/// Returns the haystack with what the function appends, for the captures that the steps lend, in place of the first
+/// matches: of as many as the limit, or of all, if there are fewer. It takes no more steps than these.
+fn rewrite_first<'h, F>(
+    regex: &mut Regex,
+    mut steps: Steps<'h, CapturesFinder>,
     alloc: Global,
-    haystack: &[u8],
-    caught: Vec<Captures>,
+    haystack: &'h [u8],
+    limit: usize,
     mut replacement: F,
 ) -> Result<Vec<u8>, AllocError>
 where
     F: FnMut(&Captures, &mut Vec<u8>) -> Result<(), AllocError>,
+    requires begins { BeginsCaptures regex.old haystack.now steps }
     requires takes { TakesMatchesOf F.FnMut haystack.now replacement }
-    requires inside { All (CapturesInside (whole haystack.now)) caught.items }
-    requires apart { AreDisjoint (whole haystack.now) None (map match_in caught.items) }
-    ensures { IfOk result (λ output.
-        RewritesFrom F.FnMut haystack.now 0 caught.items replacement [] output.items) }
+    ensures rewritten { IfOk result (λ output.
+        IsRewrittenUpTo F.FnMut regex.old.choice haystack.now replacement limit output.items) }
+    ensures appended { (h : Captured → List ℕ) → AppendsBy F.FnMut haystack.now replacement h
+        → IfOk result (λ output. IsRewrittenUpToBy regex.old.choice haystack.now limit h output.items) }
+    ensures keeps { KeepsRegex regex.old regex.new }
 {
     let mut output = Vec::new(alloc);
     let mut from = 0;
-    for captures in caught {
-        let end = copy_to_match(haystack, from, &captures, &mut output)?;
-        replacement(&captures, &mut output)?;
+    for _ in 0..limit {
+        if !next_captures(&mut steps, regex) {
+            return with_rest(output, haystack, from);
+        }
+        let lent = captures_in(&steps);
+        let end = copy_to_match(haystack, from, lent, &mut output)?;
+        replacement(lent, &mut output)?;
         from = end;
     }
+    with_rest(output, haystack, from)
+}
+
+/// Returns the output with the haystack from an offset on after it.
+fn with_rest(mut output: Vec<u8>, haystack: &[u8], from: usize) -> Result<Vec<u8>, AllocError>
+    requires { from ≤ length haystack.now }
+    ensures { IfOk result (λ all. all.items ≡ output.items ++ drop from haystack.now) }
+{
     output.extend_from_slice(&haystack[from..])?;
     Ok(output)
 }

@@ -1,17 +1,18 @@
--- The matches that were replaced are the first ones of the text.
-use Rattle.nfa_paths.proofs.Common.{◌∙◌, List, ap, search_of, Captured}
-use Rattle.nfa_meta.specs.Filled.{filled_from}
-use Rattle.nfa_meta.proofs.CaughtLemmas.{all-caught}
+-- Each call fills the template, and changes nothing that the closure captured.
+use Rattle.nfa_paths.proofs.Common.{rules}
+use Rattle.nfa_meta.specs.Templates.{filled}
+use Rattle.nfa_meta.proofs.RewriteLemmas.{filled-up_to}
+use Rattle.nfa_meta.proofs.Rewriting.{AppendsBy-same, TakesMatchesOf-same}
 use Rattle.nfa_meta.proofs.regex.Regex.replacen_template.Goals as goal
+
+pub replacen_with-requires : goal.replacen_with-requires
+replacen_with-requires c =
+    TakesMatchesOf-same _ _ _ (λ p q q' f' inside k. search rules) (λ p q inside. search rules)
 
 pub returns-clause-first : goal.returns-clause-first
 returns-clause-first c = λ some.
-    let first = c.in_ok-caught.ensures.first in
-    record {
-      caught = first.all;
-      all = all-caught c.args.self.now.choice c.args.haystack.now (search_of c.new.result) c.new.ensures first.all
-          first.rows first.groups;
-      output_is = c.in_ok-output.ensures
-          ∙ ap (λ (cs : List Captured). filled_from c.args.haystack.now c.args.template.now.parts.items 0 cs)
-          first.first;
-    }
+    let text = c.args.haystack.now in
+    let parts = c.args.template.now.parts.items in
+    filled-up_to c.args.self.now.choice text c.args.limit parts c.replacen_with.result
+    (c.replacen_with.ensures.first_appended some (λ caught. filled text caught parts)
+    (AppendsBy-same _ _ _ _ (λ p q q' f' inside k. search rules)))

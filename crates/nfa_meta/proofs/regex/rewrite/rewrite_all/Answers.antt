@@ -1,9 +1,9 @@
 -- After one more call the output has what comes for one more match. At the end these were all matches.
-use Rattle.nfa_paths.proofs.Common.{rules, ◌≡◌, ◌≤◌, ◌++◌, ◌∷◌, [], arith, refl, slice_range, common_steps, whole}
+use Rattle.nfa_paths.proofs.Common.{rules, ◌≤◌, ◌++◌, ◌∷◌, [], IfOk-weaker, arith, refl, slice_range, common_steps, whole}
 use Rattle.nfa_search_base.specs.Common.{CapturesInside, match_in, with_cache}
 use Rattle.nfa_search_base.proofs.LentLemmas.{lent-more}
 use Rattle.nfa_meta.specs.CapturesSteps.{captures_call}
-use Rattle.nfa_meta.specs.Rewritten.{RewritesFrom, Writes, end_after}
+use Rattle.nfa_meta.specs.Rewritten.{Writes}
 use Rattle.nfa_meta.proofs.CaughtLemmas.{call-fewer, steps-over, steps-turn}
 use Rattle.nfa_meta.proofs.RegexLemmas.{regex_self, regex_then}
 use Rattle.nfa_meta.proofs.RewriteLemmas.{rewritten-by, so_far-all, so_far-more, so_far-none}
@@ -46,7 +46,8 @@ replacement-requires g c =
     let turn = steps-turn c.args.regex c.args.regex.now c.args.haystack.now c.args.steps c.requires.begins
     l.invariant.caught (with_cache l.steps l.regex) to.backend.backend.captures to l.invariant.ran
     (c.next_captures.ensures.some c.loop-steps-test.true) in
-    let inside : CapturesInside (whole c.args.haystack.now) c.captures_in-captures.result.now = rw c.captures_in-captures.ensures turn.0 in
+    let inside : CapturesInside (whole c.args.haystack.now) c.captures_in-captures.result.now =
+    rw c.captures_in-captures.ensures turn.0 in
     c.requires.takes l.replacement _ _ l.invariant.so_far.leads inside
 
 pub loop-steps-preserved : goal.loop-steps-preserved
@@ -96,11 +97,13 @@ returns-clause-rewritten g c =
     let to = with_cache c.next_captures.new.steps c.next_captures.new.regex in
     let all = steps-over c.args.regex c.args.regex.now text c.args.steps c.requires.begins i.caught
     (with_cache l.steps l.regex) to i.ran (c.next_captures.ensures.none c.loop-steps-test.false) in
-    record {
+    IfOk-weaker c.with_rest.result _ _
+    (λ output rest. record {
       caught = i.caught;
       all = all.0;
-      writes = so_far-all g.F.FnMut text i.so_far (first_of (search rules, grind (arith, common_steps)));
-    }
+      writes = so_far-all g.F.FnMut text i.so_far rest;
+    })
+    c.with_rest.ensures
 
 pub returns-clause-appended : goal.returns-clause-appended
 returns-clause-appended g c = λ h appends.
@@ -110,9 +113,11 @@ returns-clause-appended g c = λ h appends.
     let to = with_cache c.next_captures.new.steps c.next_captures.new.regex in
     let all = steps-over c.args.regex c.args.regex.now text c.args.steps c.requires.begins i.caught
     (with_cache l.steps l.regex) to i.ran (c.next_captures.ensures.none c.loop-steps-test.false) in
-    record {
+    IfOk-weaker c.with_rest.result _ _
+    (λ output rest. record {
       caught = i.caught;
       all = all.0;
       output_is = rewritten-by g.F.FnMut text h i.caught all.1 c.args.replacement appends
-          (so_far-all g.F.FnMut text i.so_far (first_of (search rules, grind (arith, common_steps))));
-    }
+          (so_far-all g.F.FnMut text i.so_far rest);
+    })
+    c.with_rest.ensures
