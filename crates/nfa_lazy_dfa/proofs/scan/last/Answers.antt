@@ -31,3 +31,10 @@ pub returns-in-Err-clause-full : goal.returns-in-Err-clause-full
 returns-in-Err-clause-full c =
     IsUsedUp-at c.end.new.self c.args.dfa.now c.at.result c.in-Err.gave_up c.args.place.at c.at.ensures
     c.in-Err.ensures.full
+
+pub returns-in-Ok-clause-hit : goal.returns-in-Ok-clause-hit
+returns-in-Ok-clause-hit c =
+    let x = search_of c.args.input.now in
+    let at = c.args.place.at in
+    let past : length x.haystack ≤ at = grind arith in
+    λ s row. rw (slice_get_past x.haystack at past) (c.in-Ok.ensures.hit s row)
