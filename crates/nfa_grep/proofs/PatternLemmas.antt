@@ -3,8 +3,8 @@ use Rattle.regex_syntax.proofs.CapturesLemmas.{alike_cat, alike_refl}
 use Rattle.nfa_paths.proofs.Common.{AllZip-long, ◌≡◌, Bool, List, [], ◌∷◌, false, true, ℕ, MatchOption, None, Option, Some, AllZip, Automaton, inl, inr, length, sym, subst, arith, ◌==◌, cases_Bool}
 use Rattle.nfa_compiler.proofs.MeantLemmas.{all-meant}
 use Rattle.nfa_grep.specs.Meant.{ArePatterns, IsBuilt, IsReadFrom, bounded, word_start, Options, Re, IsOfPatterns, IsRefusalBy, IsTreeRefusal, described}
-use Rattle.nfa_grep.specs.declared.options.Bounds.{Bounds}
-use Rattle.nfa_grep.specs.declared.options.Bounds.TheVariants.{Anywhere, Words, Line}
+use Rattle.grep_options.specs.declared.options.Bounds.{Bounds}
+use Rattle.grep_options.specs.declared.options.Bounds.TheVariants.{Anywhere, Words, Line}
 use Rattle.nfa_compiler.specs.declared.error.CompileError.{CompileError}
 use Rattle.nfa_compiler.specs.Common.{meaning, look, Start, SameCaptures, Config, Parsed, IsMeant, IsNfaOf, IsTreeOf, res_of}
 use Rattle.nfa_grep.specs.declared.fault.Fault.{Fault}

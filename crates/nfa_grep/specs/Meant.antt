@@ -1,21 +1,17 @@
 -- What patterns mean, what they find in a line, in the words of the reference matcher, and why they are refused.
-use Rattle.std.specs.Prelude.{◌≡◌, ℕ, ◌+◌, ◌<◌, ◌⊎◌, ◌++◌, Bool, false, List, [], ◌∷◌, length, map, None, Option, Some, is_some, chars, codes, encode_utf8_all, if◌then◌else◌, slice_index_or, string_bytes, ⊤, ◌==◌}
+use Rattle.std.specs.Prelude.{◌≡◌, ℕ, ◌+◌, ◌<◌, ◌⊎◌, Bool, false, List, [], ◌∷◌, length, map, None, Option, Some, is_some, chars, codes, encode_utf8_all, if◌then◌else◌, slice_index_or, ⊤, ◌==◌}
 use Rattle.nfa_choice.specs.ChoiceState.{ChoiceState}
 pub use Rattle.nfa_compiler.specs.Common.{Re}
-use Rattle.nfa_compiler.specs.Common.{decimal, AllZip, slice_split, Found, whole, Automaton, is_utf8_empty, alt_all, cat_all, meaning, look, Start, End, WordStartHalfUnicode, WordEndHalfUnicode, SameCaptures, default_flags, escaped_text, Config, Parsed, hits_from, FindsFromAnyStart, IsMeant, IsNfaOf, IsOfNoText, IsRejection, NamesPattern, PatternHit, compile_error_text, expected, found_at, byte_syntax, only_pattern_text, res_of}
+use Rattle.nfa_compiler.specs.Common.{AllZip, Found, whole, Automaton, is_utf8_empty, alt_all, cat_all, meaning, look, Start, End, WordStartHalfUnicode, WordEndHalfUnicode, SameCaptures, default_flags, escaped_text, Config, Parsed, hits_from, FindsFromAnyStart, IsMeant, IsNfaOf, IsOfNoText, IsRejection, NamesPattern, PatternHit, compile_error_text, expected, found_at, byte_syntax, only_pattern_text, res_of}
 use Rattle.nfa_compiler.specs.declared.error.CompileError.{CompileError}
 use Rattle.nfa_compiler.specs.declared.error.CompileError.TheVariants.{Syntax}
 use Rattle.regex_hir.specs.declared.look.Look.TheVariants.{WordEndUnicode, WordStartUnicode}
-use Rattle.text_lines.specs.Lines.{line_feed}
+use Rattle.grep_options.specs.Texts.{options_error_text}
+use Rattle.grep_options.specs.declared.options.Bounds.{Bounds}
+use Rattle.grep_options.specs.declared.options.Bounds.TheVariants.{Anywhere, Words, Line}
+pub use Rattle.grep_options.specs.declared.options.Options.{Options}
 use Rattle.nfa_grep.specs.declared.fault.Fault.{Fault}
 use Rattle.nfa_grep.specs.declared.fault.Fault.TheVariants as fault
-use Rattle.nfa_grep.specs.declared.options.Bounds.{Bounds}
-use Rattle.nfa_grep.specs.declared.options.Bounds.TheVariants.{Anywhere, Words, Line}
-pub use Rattle.nfa_grep.specs.declared.options.Options.{Options}
-
--- what is between the line feeds of a text: one line if it has none
-abbrev pub lines_in : List ℕ → List (List ℕ)
-lines_in text = slice_split (λ byte. byte == line_feed) text
 
 -- how the grammar reads a text: patterns may match bytes that are not text, and with `ignore_case` the flag `i` is set
 abbrev pub syntax_of : Options → Config
@@ -113,10 +109,7 @@ described pattern_len error =
 -- what is said of a fault, if it does not depend on the system
 abbrev pub fault_text : Fault → Option (List ℕ)
 fault_text fault.Memory = Some (codes "out of memory")
-fault_text (fault.NotText number text) =
-    Some (codes "argument " ++ decimal number ++ codes " is not UTF-8: " ++ string_bytes text)
-fault_text fault.Limit = Some (codes "invalid max count")
-fault_text fault.Context = Some (codes "invalid context length argument")
+fault_text (fault.Options error) = options_error_text error
 fault_text (fault.OnlyPattern error) = Some (only_pattern_text error.0)
 fault_text (fault.Pattern error) = Some (compile_error_text error)
 fault_text _ = None

@@ -1,15 +1,16 @@
 -- What is printed of the lines of an input, and which lines are printed around those that are selected.
-use Rattle.std.specs.Prelude.{◌≡◌, ℕ, ◌+◌, ◌-◌, Bool, true, false, not, ◌&&◌, ◌||◌, List, [], ◌∷◌, ◌++◌, length, map, decimal, drop, min, if◌then◌else◌, ◌==◌, nat_lt, slice_range, take}
+use Rattle.std.specs.Prelude.{◌≡◌, ℕ, ◌+◌, ◌-◌, Bool, true, false, not, ◌&&◌, ◌||◌, List, [], ◌∷◌, ◌++◌, length, map, decimal, drop, if◌then◌else◌, ◌==◌, nat_lt, slice_range, take}
 use Rattle.std.specs.List.{count_by, flat_map, join_with_byte, list_any}
 use Rattle.bstr.specs.Records.{records}
 use Rattle.nfa_engines.specs.PatternSets.{patterns_of}
 use Rattle.required_literal.specs.Required.{OccursIn}
 use Rattle.text_lines.specs.Lines.{HasBytes, line_feed, record_content, with_end}
+pub use Rattle.grep_options.specs.Reports.{context_of, limit_of, shows}
+pub use Rattle.grep_options.specs.declared.options.Context.{Context}
+pub use Rattle.grep_options.specs.declared.options.Report.{Report}
+use Rattle.grep_options.specs.declared.options.Report.TheVariants.{Lines, Count, With, Without, Nothing}
 use Rattle.nfa_grep.specs.Meant.{ArePatterns, Options, Re, all_found, is_found, span_of, which_found}
 use Rattle.nfa_grep.specs.Painted.{label, painted, painted_text}
-pub use Rattle.nfa_grep.specs.declared.options.Context.{Context}
-pub use Rattle.nfa_grep.specs.declared.options.Report.{Report}
-use Rattle.nfa_grep.specs.declared.options.Report.TheVariants.{Lines, Count, With, Without, Nothing}
 use Rattle.nfa_grep.specs.declared.paint.Colour.{Colour}
 use Rattle.nfa_grep.specs.declared.paint.Colour.TheVariants.{Match, Name, Number, Separator}
 
@@ -107,22 +108,6 @@ shown options res name number offset selected line =
 abbrev pub shown_if_selected : Options → List Re → List ℕ → ℕ → ℕ → List ℕ → List ℕ
 shown_if_selected options res name number offset line =
     if is_selected options res line then shown options res name number offset true line else []
-
--- whether selected lines are printed
-abbrev pub shows : Report → Bool
-shows Lines = true
-shows _ = false
-
--- after how many selected lines a search ends that would end after this number: at most one, if only the first matters
-abbrev pub limit_of : Report → ℕ → ℕ
-limit_of Lines limit = limit
-limit_of Count limit = limit
-limit_of _ limit = min limit 1
-
--- around which lines others are printed: around none if no lines are printed
-abbrev pub context_of : Report → Context → Context
-context_of Lines context = context
-context_of _ context = record { before = 0; after = 0; separated = false; coloured = false }
 
 -- the number of lines that may still be selected after a line
 abbrev pub fewer : ℕ → Bool → ℕ

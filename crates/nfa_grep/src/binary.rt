@@ -3,8 +3,8 @@ ghost use Rattle.std.specs.Prelude.{OnOk};
 ghost use Rattle.std.specs.Io.KnownBytes.{Keeps};
 
 use crate::grep::Grep;
-use crate::options::{Report, Request};
 use crate::search::print_matches;
+use grep_options::options::{Report, Request};
 use std::io;
 use std::io::{BufRead, Write};
 use text_lines::failure::Failure;

@@ -1,4 +1,5 @@
 //! Why the program ends with an error.
+use grep_options::error::OptionsError;
 use nfa_compiler::{CompileError, OnlyPattern};
 use nfa_engines::error::SearchError;
 use std::alloc::{AllocError, AllocFailed};
@@ -7,24 +8,16 @@ use std::{fmt, io};
 use text_lines::failure::Failure;
 
 /// Why nothing, or not all, was searched.
-#[derive(Debug, Drop)]
+#[derive(Drop)]
 pub enum Fault {
     /// Allocation failed.
     Memory,
-    /// The argument of this number, from 1, is not UTF-8. This is its text, as far as it is one.
-    NotText(usize, String),
-    /// The arguments could not be read.
-    Arguments(io::Error),
-    /// The value of `-m` is not a number.
-    Limit,
-    /// The value of `-A`, `-B` or `-C` is not a number.
-    Context,
+    /// The arguments, or a file with patterns, were at fault.
+    Options(OptionsError),
     /// The only pattern was refused.
     OnlyPattern(OnlyPattern),
     /// One of several patterns was refused.
     Pattern(CompileError),
-    /// The file with patterns that has this name could not be read.
-    PatternFile { name: String, error: io::Error },
     /// An input could not be read, or the output could not be written.
     Search(Failure),
     /// The help could not be written.
@@ -50,14 +43,10 @@ impl fmt::Display for Fault {
     fn fmt<W: fmt::Write>(&self, f: &mut fmt::Formatter<W>) -> fmt::Result {
         match self {
             Fault::Memory => f.write_str("out of memory"),
-            Fault::NotText(number, text) => write!(f, "argument {number} is not UTF-8: {text}"),
-            Fault::Arguments(error) => write!(f, "cannot read the arguments: {error}"),
-            Fault::Limit => f.write_str("invalid max count"),
-            Fault::Context => f.write_str("invalid context length argument"),
-            Fault::OnlyPattern(error) => write!(f, "{error}"),
-            Fault::Pattern(error) => write!(f, "{error}"),
-            Fault::PatternFile { name, error } => write!(f, "{name}: {error}"),
-            Fault::Search(failure) => write!(f, "{failure}"),
+            Fault::Options(error) => fmt::Display::fmt(error, f),
+            Fault::OnlyPattern(error) => fmt::Display::fmt(error, f),
+            Fault::Pattern(error) => fmt::Display::fmt(error, f),
+            Fault::Search(failure) => fmt::Display::fmt(failure, f),
             Fault::Help(error) => write!(f, "cannot write standard output: {error}"),
         }
     }
@@ -82,6 +71,17 @@ impl<T: Drop> From<AllocFailed<T>> for Fault {
 
     fn from(_: AllocFailed<T>) -> Fault {
         Fault::Memory
+    }
+}
+
+impl From<OptionsError> for Fault {
+    ghost use Rattle.std.specs.Prelude.{◌≡◌};
+    ghost use Rattle.nfa_grep.specs.declared.fault.Fault.TheVariants as fault;
+
+    ghost from_gives = { λ error made. made ≡ fault.Options error };
+
+    fn from(error: OptionsError) -> Fault {
+        Fault::Options(error)
     }
 }
 

@@ -1,13 +1,13 @@
 //! The search of all files that the arguments name.
-use crate::command::Arguments;
 use crate::fault::Fault;
 use crate::grep::Grep;
 use crate::input::search_named;
-use crate::marked::{is_marked, without_mark};
-use crate::options::{Context, Options, Report, Request, When};
-use crate::output::is_output;
-use crate::patterns::{all_patterns, read_files};
-use crate::walk::{Kind, is_folder, kind_of, push_paths};
+use grep_options::command::Arguments;
+use grep_options::marked::{is_marked, without_mark};
+use grep_options::options::{Context, Options, Report, Request, When};
+use grep_options::output::is_output;
+use grep_options::patterns::{all_patterns, read_files};
+use grep_options::walk::{Kind, is_folder, kind_of, push_paths};
 use std::env::FillError;
 use std::io::{BufWriter, IsTerminal, Write};
 use std::rt::Env;
@@ -21,7 +21,7 @@ const NOT_TEXT: &str = "cannot read the input: its name is not UTF-8";
 const IS_OUTPUT: &str = "input file is also the output";
 
 /// What the search of all inputs came to.
-#[derive(Clone, Copy, Debug, PartialEq, Eq)]
+#[derive(Clone, Copy)]
 pub struct Outcome {
     /// Some line was selected.
     pub selected: bool,
@@ -171,9 +171,7 @@ fn search_folder<W: Write>(
     out: &mut W,
 ) -> Result<(), Failure> {
     let mut paths = Vec::new(rt.alloc());
-    if let Err(error) = push_paths(rt, folder, &mut paths) {
-        name_fault(rt, arguments, folder, Failure::Read(error), outcome);
-    }
+    push_folder(rt, arguments, folder, &mut paths, outcome);
     for _ in 0..u64::MAX {
         if is_over(arguments, *outcome) {
             return Ok(());
@@ -181,23 +179,45 @@ fn search_folder<W: Write>(
         let Some(path) = paths.pop() else {
             return Ok(());
         };
-        let path = path.as_str();
-        if is_marked(path) {
-            name_fault(rt, arguments, path, NOT_TEXT, outcome);
-            continue;
-        }
-        match kind_of(rt, path) {
-            Ok(Kind::File) => search_one(rt, grep, arguments, path, outcome, out)?,
-            Ok(Kind::Folder) => {
-                if let Err(error) = push_paths(rt, path, &mut paths) {
-                    name_fault(rt, arguments, path, Failure::Read(error), outcome);
-                }
-            }
-            Ok(Kind::Other) => {}
-            Err(error) => name_fault(rt, arguments, path, Failure::Read(error), outcome),
+        if enter(rt, arguments, path.as_str(), &mut paths, outcome) {
+            search_one(rt, grep, arguments, path.as_str(), outcome, out)?;
         }
     }
     Ok(())
+}
+
+/// Pushes the paths in the folder, if the path is that of one. Returns whether it is that of a file.
+fn enter(
+    rt: &HostRuntime,
+    arguments: &Arguments<'_>,
+    path: &str,
+    paths: &mut Vec<String>,
+    outcome: &mut Outcome,
+) -> bool {
+    if is_marked(path) {
+        name_fault(rt, arguments, path, NOT_TEXT, outcome);
+        return false;
+    }
+    match kind_of(rt, path) {
+        Ok(Kind::File) => return true,
+        Ok(Kind::Folder) => push_folder(rt, arguments, path, paths, outcome),
+        Ok(Kind::Other) => {}
+        Err(error) => name_fault(rt, arguments, path, Failure::Read(error), outcome),
+    }
+    false
+}
+
+/// Pushes the paths in the folder. It is named on standard error if they cannot be read.
+fn push_folder(
+    rt: &HostRuntime,
+    arguments: &Arguments<'_>,
+    folder: &str,
+    paths: &mut Vec<String>,
+    outcome: &mut Outcome,
+) {
+    if let Err(error) = push_paths(rt, folder, paths) {
+        name_fault(rt, arguments, folder, Failure::Read(error), outcome);
+    }
 }
 
 /// Searches one input, and notes in `outcome` what the search came to.

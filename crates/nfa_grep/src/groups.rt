@@ -9,8 +9,8 @@ ghost use Rattle.nfa_grep.specs.Meant.{Mean};
 
 use crate::grep::Grep;
 use crate::line::Place;
-use crate::options::{Context, Request};
 use crate::paint::{Colour, append_painted};
+use grep_options::options::{Context, Request};
 use std::alloc::{AllocError, Global};
 use std::collections::VecDeque;
 

@@ -1,8 +1,8 @@
 //! The search of one input: of a file, or of standard input.
 use crate::binary::search_input;
 use crate::grep::Grep;
-use crate::options::{Report, Request};
-use crate::output::is_file_input;
+use grep_options::options::{Report, Request};
+use grep_options::output::is_file_input;
 use std::fs;
 use std::io::{BufReader, Read, Write};
 use text_lines::failure::Failure;

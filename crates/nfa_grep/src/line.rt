@@ -3,13 +3,13 @@ ghost use Rattle.std.specs.Prelude.{◌≡◌, ◌++◌, OnOk, decimal};
 ghost use Rattle.nfa_grep.specs.Printed.{count_line, head, label_if, name_line, summary};
 ghost use Rattle.nfa_grep.specs.declared.paint.Colour.TheVariants.{Name, Number};
 
-use crate::options::{Options, Report};
 use crate::paint::{Colour, append_label, append_painted};
+use grep_options::options::{Options, Report};
 use itoa::Buffer;
 use std::alloc::AllocError;
 
 /// Where a line is: the name of its input, its number from 1, and the offset of its first byte; and how that is shown.
-#[derive(Clone, Copy, Debug)]
+#[derive(Clone, Copy)]
 pub struct Place<'n> {
     pub name: &'n [u8],
     pub number: u64,

@@ -1,34 +1,25 @@
 //! Prints the lines of files, or of standard input, in which a pattern matches.
 #![tactic(auto)]
 
-mod arguments;
 mod binary;
-mod command;
 mod fault;
 mod files;
-mod flags;
 mod grep;
 mod groups;
 mod input;
 mod joined;
 mod line;
-mod marked;
 mod needed;
-mod options;
-mod output;
 mod paint;
 mod pattern;
-mod patterns;
 mod search;
-mod walk;
 mod which;
-mod words;
 
-use crate::arguments::{arguments, need_text};
-use crate::command::{Command, parse};
 use crate::fault::Fault;
 use crate::files::{Outcome, run};
-use crate::words::split;
+use grep_options::arguments::{arguments, need_text};
+use grep_options::command::{Command, parse};
+use grep_options::words::split;
 use std::process::ExitCode;
 
 /// No line was selected.

@@ -6,7 +6,7 @@ ghost use Rattle.regex_syntax.specs.Captures.{SameCaptures};
 ghost use Rattle.nfa_compiler.specs.Compiled.{res_of};
 ghost use Rattle.nfa_grep.specs.Printed.{IsNeeded};
 
-use crate::options::Options;
+use grep_options::options::Options;
 use nfa_compiler::Parsed;
 use required_literal::{laws, required_literal};
 use std::alloc::{AllocError, Global};

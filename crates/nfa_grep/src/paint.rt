@@ -16,7 +16,7 @@ pub fn colours_are_around()
 {}
 
 /// What has a colour.
-#[derive(Clone, Copy, Debug, PartialEq, Eq)]
+#[derive(Clone, Copy)]
 pub enum Colour {
     /// A match: bold red.
     Match,

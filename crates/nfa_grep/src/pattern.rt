@@ -8,7 +8,7 @@ ghost use Rattle.nfa_compiler.specs.Compiled.{IsMeant};
 ghost use Rattle.nfa_grep.specs.Meant.{IsReadFrom, bounded, syntax_of, IsTextRefusal, described};
 
 use crate::fault::Fault;
-use crate::options::{Bounds, Options};
+use grep_options::options::{Bounds, Options};
 use nfa_compiler::{CompileError, Compiler, Config, Flags, OnlyPattern, Parsed, Syntax};
 use regex_hir::{Hir, Look};
 use std::alloc::{AllocError, Global};

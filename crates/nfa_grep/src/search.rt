@@ -8,7 +8,7 @@ ghost use Rattle.nfa_grep.specs.Meant.{Mean};
 use crate::grep::Grep;
 use crate::groups::Groups;
 use crate::line::{Place, append_summary};
-use crate::options::Request;
+use grep_options::options::Request;
 use std::alloc::Global;
 use std::io::{BufRead, Write};
 use text_lines::failure::Failure;
@@ -16,7 +16,7 @@ use text_lines::passed::pass_records;
 use text_lines::stream::{read_record, write_bytes};
 
 /// Where a line is: its number, from 1, and the offset of its first byte.
-#[derive(Clone, Copy, Debug)]
+#[derive(Clone, Copy)]
 struct LineStart {
     number: u64,
     offset: u64,

@@ -8,7 +8,7 @@ ghost use Rattle.nfa_compiler.specs.Compiled.{IsNfaOf, res_of};
 ghost use Rattle.nfa_compiler.specs.Written.{PatternMatches};
 ghost use Rattle.nfa_grep.specs.Meant.{ArePatterns, IsBuilt, which_found, IsTreeRefusal};
 ghost use Rattle.nfa_grep.specs.Printed.{number_list};
-ghost use Rattle.nfa_grep.specs.declared.options.Options.{Options};
+ghost use Rattle.grep_options.specs.declared.options.Options.{Options};
 
 use crate::fault::Fault;
 use crate::joined::separate;

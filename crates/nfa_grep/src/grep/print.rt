@@ -13,8 +13,8 @@ ghost use Rattle.text_lines.specs.Lines.{with_end};
 
 use crate::grep::Grep;
 use crate::line::{Place, append_head};
-use crate::options::Options;
 use crate::paint::{Colour, append_matched, append_painted};
+use grep_options::options::Options;
 use nfa_compiler::laws;
 use regex_search_core::{Input, Match};
 use std::alloc::AllocError;

@@ -9,7 +9,7 @@ use std::{fs, io};
 const HELD: usize = 4096;
 
 /// What is at a path.
-#[derive(Clone, Copy, Debug, PartialEq, Eq)]
+#[derive(Clone, Copy)]
 pub enum Kind {
     Folder,
     File,

@@ -1,7 +1,7 @@
 -- the parts of the text, joined
 use Rattle.std.proofs.Common.{append_assoc}
 use Rattle.std.proofs.Output.{has_written_of_eq}
-use Rattle.nfa_grep.proofs.fault.FaultDisplay.fmt.Goals as goal
+use Rattle.grep_options.proofs.error.OptionsErrorDisplay.fmt.Goals as goal
 
 pub returns-in-NotText-clause-writes : goal.returns-in-NotText-clause-writes
 returns-in-NotText-clause-writes g c =

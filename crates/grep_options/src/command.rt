@@ -1,5 +1,5 @@
 //! What the arguments of the command line ask for.
-use crate::fault::Fault;
+use crate::error::OptionsError;
 use crate::flags::with_flags;
 use crate::options::{Bounds, Context, Options, Report, When};
 use clap::{Arg, ArgAction, ArgMatches, Error};
@@ -61,7 +61,7 @@ pub enum Command<'w> {
 
 /// Reads the split arguments, the first of which is the name of the program. Fails if the value of `-m` is not a
 /// number, or if allocation failed.
-pub fn parse<'w>(alloc: Global, words: &'w [&'w str]) -> Result<Command<'w>, Fault> {
+pub fn parse<'w>(alloc: Global, words: &'w [&'w str]) -> Result<Command<'w>, OptionsError> {
     let command = clap::Command::new(alloc, "nfa_grep")
         .about("Prints the lines in which a pattern matches.")
         .version(VERSION)
@@ -89,7 +89,13 @@ fn words_argument<'w>(alloc: Global) -> Result<Arg<'w>, AllocError> {
         .required_unless_present("file")
 }
 
-fn read_matches<'w>(alloc: Global, matches: &ArgMatches<'w>) -> Result<Arguments<'w>, Fault> {
+fn read_matches<'w>(
+    alloc: Global,
+    matches: &ArgMatches<'w>,
+) -> Result<Arguments<'w>, OptionsError> {
+    // Errors come first, while there are no lists to let go.
+    let limit = limit_of(matches.get_str("max-count"))?;
+    let context = context_of(matches)?;
     let mut patterns = strs_of(alloc, matches, "regexp")?;
     let pattern_files = strs_of(alloc, matches, "file")?;
     let mut files = strs_of(alloc, matches, "words")?;
@@ -100,8 +106,8 @@ fn read_matches<'w>(alloc: Global, matches: &ArgMatches<'w>) -> Result<Arguments
     Ok(Arguments {
         options: options_of(matches, files.len() > 1),
         report: report_of(matches),
-        limit: limit_of(matches.get_str("max-count"))?,
-        context: context_of(matches)?,
+        limit,
+        context,
         coloured: when_of(matches.get_str("color")),
         recursive: matches.get_flag("recursive"),
         unnamed: matches.get_flag("no-filename"),
@@ -186,14 +192,14 @@ fn report_of(matches: &ArgMatches<'_>) -> Report {
 
 /// Returns the limit that this value of `-m` gives. There is none without a value, for a negative number, and for one
 /// that is too large for a `u64`.
-fn limit_of(value: Option<&str>) -> Result<u64, Fault> {
+fn limit_of(value: Option<&str>) -> Result<u64, OptionsError> {
     let Some(value) = value else {
         return Ok(u64::MAX);
     };
     match number_of(value) {
         Some((limit, false)) => Ok(limit),
         Some((_, true)) => Ok(u64::MAX),
-        None => Err(Fault::Limit),
+        None => Err(OptionsError::Limit),
     }
 }
 
@@ -210,7 +216,7 @@ fn number_of(text: &str) -> Option<(u64, bool)> {
 }
 
 /// Returns which lines around a selected one are printed. `-A` and `-B` go before `-C`.
-fn context_of(matches: &ArgMatches<'_>) -> Result<Context, Fault> {
+fn context_of(matches: &ArgMatches<'_>) -> Result<Context, OptionsError> {
     let around = count_of(matches.get_str("context"))?;
     let before = count_of(matches.get_str("before-context"))?.or(around);
     let after = count_of(matches.get_str("after-context"))?.or(around);
@@ -223,12 +229,12 @@ fn context_of(matches: &ArgMatches<'_>) -> Result<Context, Fault> {
 }
 
 /// Returns the number of lines that this value gives.
-fn count_of(value: Option<&str>) -> Result<Option<u64>, Fault> {
+fn count_of(value: Option<&str>) -> Result<Option<u64>, OptionsError> {
     let Some(value) = value else {
         return Ok(None);
     };
     match number_of(value) {
         Some((count, false)) => Ok(Some(count)),
-        _ => Err(Fault::Context),
+        _ => Err(OptionsError::Context),
     }
 }

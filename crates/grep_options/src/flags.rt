@@ -16,6 +16,8 @@ struct Entry {
     many: bool,
     /// Of this option and that one, only the last one counts.
     rival: Option<&'static str>,
+    /// Another name.
+    alias: Option<&'static str>,
     help: &'static str,
 }
 
@@ -36,6 +38,7 @@ fn flag(name: &'static str, letter: char, help: &'static str) -> Entry {
         value: None,
         many: false,
         rival: None,
+        alias: None,
         help,
     }
 }
@@ -52,6 +55,14 @@ fn long_flag(name: &'static str, help: &'static str) -> Entry {
 fn rival(name: &'static str, letter: char, rival: &'static str, help: &'static str) -> Entry {
     Entry {
         rival: Some(rival),
+        ..flag(name, letter, help)
+    }
+}
+
+/// An option with another name.
+fn aliased(name: &'static str, letter: char, alias: &'static str, help: &'static str) -> Entry {
+    Entry {
+        alias: Some(alias),
         ..flag(name, letter, help)
     }
 }
@@ -87,20 +98,29 @@ fn with_each<'w>(
 
 /// Returns the option, as `clap` has it.
 fn arg_of<'w>(alloc: Global, flag: Entry) -> Result<Arg<'w>, AllocError> {
-    let arg = with_value(Arg::new(alloc, flag.name).help(flag.help), flag);
-    match flag.rival {
-        Some(rival) => arg.overrides_with(rival),
+    let arg = with_names(Arg::new(alloc, flag.name).help(flag.help), flag);
+    let arg = with_value(arg, flag);
+    let arg = match flag.rival {
+        Some(rival) => arg.overrides_with(rival)?,
+        None => arg,
+    };
+    match flag.alias {
+        Some(alias) => arg.alias(alias),
         None => Ok(arg),
     }
 }
 
-/// Adds the names of the option and its value.
-fn with_value<'w>(arg: Arg<'w>, flag: Entry) -> Arg<'w> {
+/// Adds the name of the option and its letter.
+fn with_names<'w>(arg: Arg<'w>, flag: Entry) -> Arg<'w> {
     let arg = arg.long(flag.name);
-    let arg = match flag.letter {
+    match flag.letter {
         Some(letter) => arg.short(letter),
         None => arg,
-    };
+    }
+}
+
+/// Adds the value of the option, if it has one.
+fn with_value<'w>(arg: Arg<'w>, flag: Entry) -> Arg<'w> {
     match flag.value {
         Some(value) => arg
             .value_name(value)
@@ -189,16 +209,16 @@ fn with_reports<'w>(alloc: Global, command: Command<'w>) -> Result<Command<'w>, 
 
 /// Adds the options that end a search early, and those that say which lines around a selected one are printed.
 fn with_limits<'w>(alloc: Global, command: Command<'w>) -> Result<Command<'w>, AllocError> {
-    let quiet = flag(
-        "quiet",
-        'q',
-        "Print nothing, and end at the first selected line",
-    );
-    let command = command.arg(arg_of(alloc, quiet)?.alias("silent")?)?;
     with_each(
         alloc,
         command,
         &[
+            aliased(
+                "quiet",
+                'q',
+                "silent",
+                "Print nothing, and end at the first selected line",
+            ),
             valued(
                 "max-count",
                 'm',
@@ -289,16 +309,19 @@ fn with_colours<'w>(alloc: Global, command: Command<'w>) -> Result<Command<'w>, 
 
 /// The option that says when colours are printed.
 fn colour<'w>(alloc: Global) -> Result<Arg<'w>, AllocError> {
-    Arg::new(alloc, "color")
-        .long("color")
-        .action(ArgAction::Set)
+    with_when(Arg::new(alloc, "color").long("color"))
+        .help(
+            "Print matches, names, numbers and separators in colours; auto, as without WHEN: on a terminal",
+        )
+        .alias("colour")
+}
+
+/// Adds the value that says when.
+fn with_when<'w>(arg: Arg<'w>) -> Arg<'w> {
+    arg.action(ArgAction::Set)
         .num_args(0..=1)
         .require_equals(true)
         .default_missing_value("auto")
         .value_parser(WHENS)
         .value_name("WHEN")
-        .help(
-            "Print matches, names, numbers and separators in colours; auto, as without WHEN: on a terminal",
-        )
-        .alias("colour")
 }

@@ -1,14 +1,14 @@
 //! The texts of all patterns.
 ghost use Rattle.std.specs.Prelude.{◌≡◌, ◌++◌, IfOk, OnOk, map};
 ghost use Rattle.std.specs.List.{flat_map};
-ghost use Rattle.nfa_grep.specs.Meant.{lines_in};
+ghost use Rattle.grep_options.specs.Texts.{lines_in};
 
-use crate::fault::Fault;
+use crate::error::OptionsError;
 use std::alloc::{AllocError, Global};
 use std::{fs, io};
 
 /// Reads these files. Standard input is the file `-`.
-pub fn read_files(rt: &HostRuntime, names: &[&str]) -> Result<Vec<String>, Fault> {
+pub fn read_files(rt: &HostRuntime, names: &[&str]) -> Result<Vec<String>, OptionsError> {
     let alloc = rt.alloc();
     let mut texts = Vec::new(alloc);
     for name in names {
@@ -16,7 +16,7 @@ pub fn read_files(rt: &HostRuntime, names: &[&str]) -> Result<Vec<String>, Fault
             Ok(text) => texts.push(text)?,
             Err(error) => {
                 let name = String::from_str(alloc, name)?;
-                return Err(Fault::PatternFile { name, error });
+                return Err(OptionsError::PatternFile { name, error });
             }
         }
     }

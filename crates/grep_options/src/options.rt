@@ -1,7 +1,7 @@
 //! The options: which lines are selected, and what is printed of them.
 
 /// What bounds a match.
-#[derive(Clone, Copy, Debug, PartialEq, Eq)]
+#[derive(Clone, Copy)]
 pub enum Bounds {
     /// Nothing.
     Anywhere,
@@ -12,7 +12,7 @@ pub enum Bounds {
 }
 
 /// The options that change which lines are selected, and what is printed of a line.
-#[derive(Clone, Copy, Debug, PartialEq, Eq)]
+#[derive(Clone, Copy)]
 pub struct Options {
     /// The patterns are texts, in which no character has a meaning of its own.
     pub fixed: bool,
@@ -39,7 +39,7 @@ pub struct Options {
 }
 
 /// When colours are printed.
-#[derive(Clone, Copy, Debug, PartialEq, Eq)]
+#[derive(Clone, Copy)]
 pub enum When {
     Never,
     /// If the output is a terminal that has colours.
@@ -48,7 +48,7 @@ pub enum When {
 }
 
 /// Which lines around a selected one are printed, too.
-#[derive(Clone, Copy, Debug, PartialEq, Eq)]
+#[derive(Clone, Copy)]
 pub struct Context {
     /// This many lines before it.
     pub before: usize,
@@ -69,7 +69,7 @@ const NO_CONTEXT: Context = Context {
 };
 
 /// What is printed of an input.
-#[derive(Clone, Copy, Debug, PartialEq, Eq)]
+#[derive(Clone, Copy, PartialEq, Eq)]
 pub enum Report {
     /// The selected lines.
     Lines,
@@ -85,7 +85,7 @@ pub enum Report {
 
 impl Report {
     ghost use Rattle.std.specs.Prelude.{◌≡◌};
-    ghost use Rattle.nfa_grep.specs.Printed.{context_of, limit_of, shows};
+    ghost use Rattle.grep_options.specs.Reports.{context_of, limit_of, shows};
 
     /// Returns whether selected lines are printed.
     pub fn shows(self) -> bool
@@ -114,7 +114,7 @@ impl Report {
 }
 
 /// What is searched for in one input.
-#[derive(Clone, Copy, Debug)]
+#[derive(Clone, Copy)]
 pub struct Request<'n> {
     /// The name of the input, as it is printed.
     pub name: &'n str,

@@ -1,7 +1,8 @@
 -- The pieces that the iterator gives.
 use Rattle.std.proofs.lemmas.Iterator.Splits.{YieldsList-from_str_split}
-use Rattle.nfa_paths.proofs.Common.{lit<, map_from_collect}
-use Rattle.nfa_grep.proofs.patterns.lines_in.Goals as goal
+use Rattle.std.proofs.Common.{lit<}
+use Rattle.std.proofs.lemmas.Iterator.Consumers.{map_from_collect}
+use Rattle.grep_options.proofs.patterns.lines_in.Goals as goal
 
 pub returns : goal.returns
 returns c = map_from_collect _ c.collect.ensures.ran

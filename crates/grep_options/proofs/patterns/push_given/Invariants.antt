@@ -1,7 +1,8 @@
 -- The lines of the texts so far were appended.
-use Rattle.nfa_paths.proofs.Common.{◌≡◌, ◌++◌, map, take, flat_map}
-use Rattle.nfa_grep.specs.Meant.{lines_in}
-use Rattle.nfa_grep.proofs.patterns.push_given.Given as goal
+use Rattle.std.proofs.Common.{◌≡◌, ◌++◌, map, take}
+use Rattle.std.specs.List.{flat_map}
+use Rattle.grep_options.specs.Texts.{lines_in}
+use Rattle.grep_options.proofs.patterns.push_given.Given as goal
 
 abbrev pub invariant-loop-text : goal.invariant-loop-text
 invariant-loop-text l = map (λ text. text.now) l.all.items

@@ -1,6 +1,7 @@
 -- The texts of the lines come after those before.
-use Rattle.nfa_paths.proofs.Common.{◌∙◌, ℕ, ◌++◌, Bor, List, ap, map, map-append}
-use Rattle.nfa_grep.proofs.patterns.push_lines.Goals as goal
+use Rattle.std.proofs.Common.{◌∙◌, ℕ, ◌++◌, Bor, List, ap, map}
+use Rattle.std.proofs.lemmas.List.{map-append}
+use Rattle.grep_options.proofs.patterns.push_lines.Goals as goal
 
 pub returns : goal.returns
 returns c =
