@@ -19,7 +19,7 @@ use std::alloc::{AllocError, Global};
 use thompson_nfa::{BuildError, Look, NFA, State, Transition};
 
 /// A state, as a table gives it. The last number of each row, except of `Union` and `Match`, is the next state.
-#[derive(Clone, Copy, Debug)]
+#[derive(Clone, Copy)]
 pub enum StateRow<'a> {
     /// Reads this byte.
     Byte(u8, usize),
@@ -170,7 +170,7 @@ fn group_info(alloc: Global, patterns: &[&[Option<&str>]]) -> Result<GroupInfo, 
 }
 
 /// An NFA, as a table gives it.
-#[derive(Clone, Copy, Debug)]
+#[derive(Clone, Copy)]
 pub struct StateTable<'a> {
     /// The states, in the order of their numbers. A search starts at the first one.
     pub rows: &'a [StateRow<'a>],
