@@ -156,7 +156,7 @@ module _ (b : MutBor RegexState) where
         (called last None t over) in
         (all-caught r.choice text (whole text) refl cs all.0 all.2, all.3)
 
--- what a step lends, by whether the iterator has ended
+-- what a step gives, by whether the iterator has ended
 pub lent-some : (done : Bool) (c : Captured) (Call : Option (Result Captured SearchError) → Type 0)
     → Call (held_unless done c) → not done ≡ true → Call (Some (Ok c))
 lent-some false c Call call is = call

@@ -72,7 +72,7 @@ pub fn named_group_of_pattern(
 {}
 
 /// The pattern that `nfa_meta::escape` makes of a text finds where the text stands first, and nothing if it stands
-/// nowhere. [`match_of_pattern`] says the same of a search.
+/// nowhere. By [`match_of_pattern`] that is what a search finds.
 pub fn escaped_text_finds_itself(text: &str, escaped: &str, haystack: &[u8])
     requires escaped { ReadsAsText escaped.now text.now }
     ensures { IsFirstPlace text.now haystack.now (first_match escaped.now haystack.now) }

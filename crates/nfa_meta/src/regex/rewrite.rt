@@ -15,7 +15,7 @@ use std::alloc::{AllocError, Global};
 
 impl Regex {
     /// Returns the haystack with what the function appends to the output, for the captures of each match, in place of
-    /// the match. The function is called once for each match, from left to right. It is lent the captures, so no match
+    /// the match. The function is called once for each match, from left to right. It borrows the captures, so no match
     /// is copied. The only errors are that allocation failed, and those of the function.
     ///
     /// ```
@@ -51,7 +51,7 @@ impl Regex {
     }
 
     /// Returns the haystack with what the function appends, for their captures, in place of its first matches: at most
-    /// `limit`, and all if `limit` is 0. Searches for no more matches than it replaces. The only errors are that
+    /// `limit`, and all if `limit` is 0. It stops searching at the limit. The only errors are that
     /// allocation failed, and those of the function.
     ///
     /// ```
@@ -88,8 +88,7 @@ impl Regex {
     }
 }
 
-/// Returns the haystack with what the function appends, for the captures that the steps lend, in place of the match of
-/// each.
+/// Returns the haystack with what the function appends, for the captures of each step, in place of the match.
 fn rewrite_all<'h, F>(
     regex: &mut Regex,
     mut steps: Steps<'h, CapturesFinder>,
@@ -118,8 +117,8 @@ where
     with_rest(output, haystack, from)
 }
 
-/// Returns the haystack with what the function appends, for the captures that the steps lend, in place of the first
-/// matches: of as many as the limit, or of all, if there are fewer. It takes no more steps than these.
+/// Returns the haystack with what the function appends, for the captures of each step, in place of the first matches: of
+/// as many as the limit, or of all, if there are fewer. It stops at the limit.
 fn rewrite_first<'h, F>(
     regex: &mut Regex,
     mut steps: Steps<'h, CapturesFinder>,
