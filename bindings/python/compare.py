@@ -143,8 +143,41 @@ def written_cases():
     want(found, [3] * 4)
 
 
+def threads_free_their_own():
+    """A handle is freed on the thread that made it, also if its pattern is dropped on another."""
+    freed, used, dropped = [], threading.Event(), threading.Event()
+
+    class Watched(nfa._Compiled):
+        def __init__(self, *given):
+            super().__init__(*given)
+            self.maker = threading.get_ident()
+
+        def __del__(self):
+            super().__del__()
+            freed.append(self.maker == threading.get_ident())
+
+    def work():
+        patterns[0].search('a')
+        used.set()
+        dropped.wait()
+        nfa.compile('for the next handle')
+
+    compiled, nfa._Compiled = nfa._Compiled, Watched
+    patterns = [nfa.Pattern('dropped by another thread')]
+    thread = threading.Thread(target=work)
+    thread.start()
+    used.wait()
+    patterns.clear()
+    dropped.set()
+    thread.join()
+    nfa._Compiled = compiled
+    nfa.Pattern('for the next handle of this one')
+    want(freed, [True] * 3)
+
+
 if __name__ == '__main__':
     asked = int(sys.argv[1]) if sys.argv[1:] else 10000
     written_cases()
+    threads_free_their_own()
     random_questions(asked)
     print(f'python: passed: {asked} questions')

@@ -15,9 +15,10 @@ and one of bytes matches bytes. Each thread that uses a pattern compiles it for 
 import ctypes as c
 import os
 import threading
-from itertools import accumulate
+from itertools import accumulate, count as count_up
 from re import A, ASCII, DOTALL, I, IGNORECASE, M, MULTILINE, S, U, UNICODE, VERBOSE, X
 from re import match as re_match
+from weakref import WeakValueDictionary
 
 __all__ = ['A', 'ASCII', 'DOTALL', 'I', 'IGNORECASE', 'M', 'MULTILINE', 'Match', 'Pattern', 'PatternError', 'S', 'U',
            'UNICODE', 'VERBOSE', 'X', 'compile', 'error', 'escape', 'findall', 'finditer', 'fullmatch', 'match', 'purge',
@@ -245,6 +246,15 @@ class Match:
         return f'<nfa.Match object; span={self.span()}, match={self.group()!r}>'
 
 
+# A thread frees its handles itself, also those of patterns that another thread has dropped: these are not alive.
+_numbers, _alive, _thread = count_up(), WeakValueDictionary(), threading.local()
+
+
+def _own_handles():
+    """The handles that this thread has made, by the number of their pattern and by what they are for."""
+    return _thread.__dict__.setdefault('handles', {})
+
+
 class Pattern:
     """A compiled pattern."""
 
@@ -258,7 +268,8 @@ class Pattern:
             # In such a text a byte above 0x7F is its escape.
             self._text = ''.join(chr(byte) if byte < 0x80 else f'\\x{byte:02X}' for byte in pattern)
             self._flags |= _ASCII | _BYTES
-        self._own = threading.local()
+        self._number = next(_numbers)
+        _alive[self._number] = self
         try:
             first = self._compiled('search')
         except ValueError:
@@ -271,10 +282,12 @@ class Pattern:
 
     def _compiled(self, how):
         """This thread's handle for `search`, `match` or `fullmatch`."""
-        kept = self._own.__dict__
-        if how not in kept:
-            kept[how] = self._compile(how)
-        return kept[how]
+        own, key = _own_handles(), (self._number, how)
+        if key not in own:
+            for dropped in [it for it in own if it[0] not in _alive]:
+                del own[dropped]
+            own[key] = self._compile(how)
+        return own[key]
 
     def _compile(self, how):
         if how == 'search':
