@@ -339,7 +339,9 @@ class Pattern:
                 slots = compiled.search(text.raw, at + 1, end) if at < end else None
             if not slots:
                 return
-            at = last = slots[1]
+            last = slots[1]
+            # From the end of an empty match a search would find it once more.
+            at = last + 1 if slots[0] == last else last
             yield Match(self, text, slots, pos, endpos)
 
     def findall(self, string, pos=0, endpos=None):

@@ -35,8 +35,12 @@ impl<'r, 'h, T: Text + ?Sized> Steps<'r, 'h, T> {
         if found == Some((self.last, self.last)) {
             found = if self.at < hay.len() { search(&mut self.handle, hay, self.at + 1) } else { None };
         }
-        self.at = found.map_or(usize::MAX, |(_, end)| end);
-        self.last = self.at;
+        (self.at, self.last) = match found {
+            // A search from there would find it once more.
+            Some((start, end)) if start == end => (end + 1, end),
+            Some((_, end)) => (end, end),
+            None => (usize::MAX, usize::MAX),
+        };
         found
     }
 }
