@@ -21,8 +21,8 @@ from re import match as re_match
 from weakref import WeakValueDictionary
 
 __all__ = ['A', 'ASCII', 'DOTALL', 'I', 'IGNORECASE', 'M', 'MULTILINE', 'Match', 'Pattern', 'PatternError', 'S', 'U',
-           'UNICODE', 'VERBOSE', 'X', 'compile', 'error', 'escape', 'findall', 'finditer', 'fullmatch', 'match', 'purge',
-           'search', 'split', 'sub', 'subn']
+           'UNICODE', 'VERBOSE', 'X', 'compile', 'error', 'escape', 'findall', 'finditer', 'fullmatch', 'match',
+           'purge', 'search', 'split', 'sub', 'subn']
 
 # The library's flags.
 _ASCII, _BYTES, _ANCHORED = 64, 128, 256

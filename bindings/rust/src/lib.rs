@@ -1,4 +1,5 @@
-//! Regular expressions by a proved engine, in the words of `regex::bytes`; [`string`] is for `str`. `docs/BINDINGS.md` says what is proved.
+//! Regular expressions by a proved engine, in the words of `regex::bytes`; [`string`] is for `str`. `docs/BINDINGS.md`
+//! says what is proved.
 //!
 //! ```
 //! use nfa_engines::Regex;

@@ -123,8 +123,8 @@ fn text(write: impl Fn(&mut [u8]) -> (i32, usize)) -> Result<String, Error> {
 // SAFETY of all calls: a slice of Rust is never null, nor longer than `isize::MAX`; what is written is borrowed
 // mutably, so it overlaps nothing; and `&mut self` makes one call at a time.
 
-/// A full handle of one pattern, with room for the slots of its groups. Neither `Send` nor `Sync`, since it has a pointer:
-/// a handle stays on the thread that made it.
+/// A full handle of one pattern, with room for the slots of its groups. Neither `Send` nor `Sync`, since it has a
+/// pointer: a handle stays on the thread that made it.
 pub struct RegexHandle {
     raw: Raw,
     slots: Vec<usize>,

@@ -38,7 +38,8 @@ fn groups() {
     assert_eq!((&groups[0], &groups["word"], groups.get(2), groups.get(3)), (&b"foo"[..], &b"foo"[..], None, None));
     assert_eq!((groups.get(4), groups.get(usize::MAX), groups.name("other")), (None, None, None));
     assert_eq!(groups.iter().flatten().count(), 2);
-    let words: Vec<_> = regex.captures_iter(b"a1 ! b").map(|groups| groups.name("word").map(|m| m.as_bytes())).collect();
+    let word = |groups: nfa_engines::Captures<'static>| groups.name("word").map(|m| m.as_bytes());
+    let words: Vec<_> = regex.captures_iter(b"a1 ! b").map(word).collect();
     assert_eq!(words, [Some(&b"a"[..]), None, Some(&b"b"[..])]);
 }
 

@@ -1,5 +1,5 @@
-//! The same answers as the crate `regex`, on random questions: `peer [COUNT]`. Prints "rust: passed: COUNT questions", or
-//! the first question with two answers.
+//! The same answers as the crate `regex`, on random questions: `peer [COUNT]`. Prints "rust: passed: COUNT questions",
+//! or the first question with two answers.
 use std::fmt::Debug;
 use std::process::exit;
 
@@ -98,8 +98,8 @@ asks!(ask_string, str, nfa_engines::string::Regex, regex::Regex, strings, regex)
 fn ask_set(patterns: &[String], hay: &str) {
     let (ours, theirs) = (nfa_engines::string::RegexSet::new(patterns), regex::RegexSet::new(patterns));
     if let (Ok(ours), Ok(theirs)) = (ours, theirs) {
-        let (found, wanted): (Vec<_>, Vec<_>) = (ours.matches(hay).iter().collect(), theirs.matches(hay).iter().collect());
-        same(found, wanted, || format!("matches of {patterns:?} in {hay:?}"));
+        let (found, wanted) = (ours.matches(hay), theirs.matches(hay));
+        same(found.iter().collect::<Vec<_>>(), wanted.iter().collect(), || format!("matches of {patterns:?} in {hay:?}"));
     }
 }
 
@@ -112,11 +112,12 @@ fn main() {
         let (starts, limit) = (hay.char_indices().map(|(at, _)| at).chain([hay.len()]), source.below(4));
         let start = starts.clone().nth(source.below(starts.count())).expect("a start");
         let template = source.one(&TEMPLATES);
+        let ascii = format!("(?-u){pattern}");
         match question % 4 {
             0 => ask_string(&pattern, &hay, start, limit, template),
             1 => ask_set(&[pattern, source.piece(2), source.piece(1)], &hay),
             // A letter that is not ASCII is refused by `regex` before 1.9.
-            2 if pattern.is_ascii() => ask_bytes(&format!("(?-u){pattern}"), hay.as_bytes(), start, limit, template.as_bytes()),
+            2 if pattern.is_ascii() => ask_bytes(&ascii, hay.as_bytes(), start, limit, template.as_bytes()),
             _ => ask_bytes(&pattern, hay.as_bytes(), start, limit, template.as_bytes()),
         }
     }
