@@ -39,3 +39,12 @@ fn iterators_in_iterators() {
     let lens = regex.find_iter("ab c").map(|m| regex.find_iter(m.as_str()).count()).collect::<Vec<_>>();
     assert_eq!(lens, [1, 1]);
 }
+
+#[test]
+fn patterns_cross_threads() {
+    fn crosses<T: Send + Sync>() {}
+    crosses::<Regex>();
+    crosses::<nfa_engines::Regex>();
+    crosses::<RegexSet>();
+    crosses::<RegexBuilder>();
+}
