@@ -154,8 +154,7 @@ int32_t nfa_regex_escape(const uint8_t *text, size_t len, uint8_t *pattern, size
 size_t nfa_regex_why(const uint8_t *pattern, size_t pattern_len, const nfa_options *options, uint8_t *message,
                      size_t room);
 
-/* Writes which bytes of the pattern are wrong. NFA_FOUND; NFA_NONE if it can be compiled, is not UTF-8, or exceeds the
- * size limit; or NFA_MEMORY. */
+/* Writes which bytes of the pattern are wrong. NFA_FOUND, or NFA_NONE if it can be compiled or they are not known. */
 int32_t nfa_regex_place(const uint8_t *pattern, size_t pattern_len, const nfa_options *options, nfa_match *place);
 
 /* ---- Sets ---- */

@@ -1,11 +1,10 @@
 //! Where a text is not a pattern.
-ghost use Rattle.std.specs.Prelude.{[], pos, ◌∷◌, ◌≡◌, ◌≢◌, ◌⊎◌};
-ghost use Rattle.nfa_c.specs.Codes.{memory_code};
+ghost use Rattle.std.specs.Prelude.{[], pos, ◌∷◌, ◌≡◌, ◌≢◌};
 ghost use Rattle.nfa_c.specs.Options.{builder_in};
-ghost use Rattle.nfa_c.specs.Places.{HasNoPlace, HasNoSetPlace, IsPlace, WritesPlace, place_of};
+ghost use Rattle.nfa_c.specs.Places.{IsPlace, WritesPlace, place_of};
 ghost use Rattle.nfa_c.specs.Texts.{texts_in};
 
-use crate::codes::{FOUND, Failure, MEMORY, NONE};
+use crate::codes::{FOUND, Failure, NONE};
 use crate::compile::build;
 use crate::options::{self, NfaOptions};
 use crate::search::NfaMatch;
@@ -32,7 +31,7 @@ fn write_place(error: &CompileError, place: &mut NfaMatch) -> i32
 }
 
 /// Compiles the pattern with these settings, and writes where it is wrong: the bytes of the text, and the pattern 0.
-/// Finds nothing if it can be compiled, is not UTF-8 or exceeds the size limit.
+/// Finds nothing if it can be compiled, is not UTF-8 or exceeds the size limit, or if memory is refused.
 #[unsafe(no_mangle)]
 pub extern "C" fn nfa_regex_place(
     alloc: Global,
@@ -41,12 +40,10 @@ pub extern "C" fn nfa_regex_place(
     place: &mut NfaMatch,
 ) -> i32
     ensures place { result ≡ pos 1 → IsPlace (builder_in options.now) (pattern.now ∷ []) place.new }
-    ensures none { result ≡ pos 0 → HasNoPlace (builder_in options.now) pattern.now }
-    ensures stays { result ≢ pos 1 → ((result ≡ pos 0) ⊎ (result ≡ memory_code)) × (place.new ≡ place.old) }
+    ensures stays { result ≢ pos 1 → (result ≡ pos 0) × (place.new ≡ place.old) }
 {
     match build(alloc, &options::builder(options), pattern) {
         Err(Failure::Pattern(error)) => write_place(&error, place),
-        Err(Failure::Memory) => MEMORY,
         _ => NONE,
     }
 }
@@ -61,12 +58,10 @@ pub extern "C" fn nfa_regex_set_place(
     place: &mut NfaMatch,
 ) -> i32
     ensures place { result ≡ pos 1 → IsPlace (builder_in options.now) (texts_in text.now ends.now) place.new }
-    ensures none { result ≡ pos 0 → HasNoSetPlace (builder_in options.now) text.now ends.now }
-    ensures stays { result ≢ pos 1 → ((result ≡ pos 0) ⊎ (result ≡ memory_code)) × (place.new ≡ place.old) }
+    ensures stays { result ≢ pos 1 → (result ≡ pos 0) × (place.new ≡ place.old) }
 {
     match build_set(alloc, &options::builder(options), text, ends) {
         Err(SetFailure::Patterns(error)) => write_place(&error, place),
-        Err(SetFailure::Memory) => MEMORY,
         _ => NONE,
     }
 }
