@@ -208,9 +208,10 @@ static inline bool nfa_iter_repeats(const nfa_iter *iter, size_t start, size_t e
     return start == end && end == iter->last;
 }
 
-/* Takes the end of the match that this code says was found. */
-static inline int32_t nfa_iter_step(nfa_iter *iter, int32_t code, size_t end) {
-    iter->at = iter->last = code == NFA_FOUND ? end : NFA_UNSET;
+/* Takes the match that this code says was found. From the end of an empty one a search would find it once more. */
+static inline int32_t nfa_iter_step(nfa_iter *iter, int32_t code, size_t start, size_t end) {
+    iter->last = code == NFA_FOUND ? end : NFA_UNSET;
+    iter->at = code == NFA_FOUND && start == end ? end + 1 : iter->last;
     return code;
 }
 
@@ -226,7 +227,7 @@ static inline int32_t nfa_iter_next(nfa_iter *iter, nfa_regex *re, const void *h
         code = iter->at == len ? (int32_t)NFA_NONE : nfa_find(re, hay, len, iter->at + 1, &next);
     if (code == NFA_FOUND)
         *found = next;
-    return nfa_iter_step(iter, code, next.end);
+    return nfa_iter_step(iter, code, next.start, next.end);
 }
 
 /* Finds the next match, and writes the slots of its groups: two at least. */
@@ -240,7 +241,7 @@ static inline int32_t nfa_iter_next_captures(nfa_iter *iter, nfa_regex *re, cons
     if (code == NFA_FOUND && nfa_iter_repeats(iter, slots[0], slots[1]))
         code = iter->at == len ? (int32_t)NFA_NONE
                                : nfa_find_captures(re, hay, len, iter->at + 1, slots, slots_len);
-    return nfa_iter_step(iter, code, slots[1]);
+    return nfa_iter_step(iter, code, slots[0], slots[1]);
 }
 
 /* ---- Texts ---- */

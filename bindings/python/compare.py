@@ -13,6 +13,7 @@ import nfa
 SOURCE = random.Random(5)
 ATOMS = ['a', 'b', 'c', '[ab]', '[^a]', '.', r'\d', r'\w', r'\b', '^', 'é', 'ab', r'\.', '(?:b|ca)']
 LETTERS = 'abc .1é\n'
+TEMPLATES = [r'<\g<0>>', r'\n\t\\', r'\.\0\101', '', r'\1', r'\g<1>1', r'[\1\g<0>]']
 
 
 def stop(*said):
@@ -53,13 +54,15 @@ def ask(pattern, text, flags):
     got = [found.span() for found in mine.finditer(text)]
     if got != wanted:
         stop('finditer', repr(pattern), repr(text), flags, 'gives', got, 'and not', wanted)
-    for call, arguments in [('findall', ()), ('split', ()), ('split', (1,))]:
+    for call, arguments in [('findall', ()), ('split', ()), ('split', (1,)), ('split', (-1,))]:
         if getattr(mine, call)(text, *arguments) != getattr(theirs, call)(text, *arguments):
             stop(call, repr(pattern), repr(text), flags)
     is_text = isinstance(text, str)
-    for repl in ['<\\g<0>>' if is_text else b'<\\g<0>>', text[:1], lambda found: found.group().upper()]:
-        if mine.subn(repl, text) != theirs.subn(repl, text):
-            stop('subn', repr(pattern), repr(text), flags, repl)
+    template = SOURCE.choice(TEMPLATES if theirs.groups else TEMPLATES[:4])
+    for repl in [template if is_text else template.encode(), text[:1], lambda found: found.group().upper()]:
+        for count in [0, 1, -1]:
+            if mine.subn(repl, text, count) != theirs.subn(repl, text, count):
+                stop('subn', repr(pattern), repr(text), flags, repl, count)
 
 
 def random_questions(count):
@@ -122,7 +125,15 @@ def written_cases():
     refuses(ValueError, nfa.compile, b'a', re.L)
     refuses(ValueError, nfa.compile, word, re.I)
     refuses(IndexError, named.group, 'c')
-    refuses(nfa.error, nfa.sub, 'a', r'\g<x>', 'a')
+    for number, (pattern, flags) in enumerate([('a\n(é', 0), (b'a\n(\xe9', 0), ('é\n[z-a]', 0)]):
+        try:
+            nfa.compile(pattern, flags)
+        except nfa.PatternError as refused:
+            want((refused.pos, refused.lineno, refused.colno), [(2, 2, 1), (2, 2, 1), (3, 2, 2)][number])
+    want(nfa.compile('a', re.I).flags, re.compile('a', re.I).flags)
+    for template in [r'\g<x>', r'\2', r'\q', '\\', r'\g<2>']:
+        refuses((nfa.error, IndexError), nfa.sub, '(a)', template, 'a')
+        refuses((re.error, IndexError), re.sub, '(a)', template, 'a')
     word, found = nfa.compile(r'\w+'), []
     threads = [threading.Thread(target=lambda: found.append(len(word.findall('ab c d')))) for _ in range(4)]
     for thread in threads:
@@ -132,8 +143,41 @@ def written_cases():
     want(found, [3] * 4)
 
 
+def threads_free_their_own():
+    """A handle is freed on the thread that made it, also if its pattern is dropped on another."""
+    freed, used, dropped = [], threading.Event(), threading.Event()
+
+    class Watched(nfa._Compiled):
+        def __init__(self, *given):
+            super().__init__(*given)
+            self.maker = threading.get_ident()
+
+        def __del__(self):
+            super().__del__()
+            freed.append(self.maker == threading.get_ident())
+
+    def work():
+        patterns[0].search('a')
+        used.set()
+        dropped.wait()
+        nfa.compile('for the next handle')
+
+    compiled, nfa._Compiled = nfa._Compiled, Watched
+    patterns = [nfa.Pattern('dropped by another thread')]
+    thread = threading.Thread(target=work)
+    thread.start()
+    used.wait()
+    patterns.clear()
+    dropped.set()
+    thread.join()
+    nfa._Compiled = compiled
+    nfa.Pattern('for the next handle of this one')
+    want(freed, [True] * 3)
+
+
 if __name__ == '__main__':
     asked = int(sys.argv[1]) if sys.argv[1:] else 10000
     written_cases()
+    threads_free_their_own()
     random_questions(asked)
     print(f'python: passed: {asked} questions')

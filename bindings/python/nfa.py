@@ -15,15 +15,21 @@ and one of bytes matches bytes. Each thread that uses a pattern compiles it for 
 import ctypes as c
 import os
 import threading
+from itertools import accumulate, count as count_up
 from re import A, ASCII, DOTALL, I, IGNORECASE, M, MULTILINE, S, U, UNICODE, VERBOSE, X
+from re import match as re_match
+from weakref import WeakValueDictionary
 
-__all__ = ['A', 'ASCII', 'DOTALL', 'I', 'IGNORECASE', 'M', 'MULTILINE', 'Match', 'Pattern', 'S', 'U', 'UNICODE',
-           'VERBOSE', 'X', 'compile', 'error', 'escape', 'findall', 'finditer', 'fullmatch', 'match', 'purge', 'search',
-           'split', 'sub', 'subn']
+__all__ = ['A', 'ASCII', 'DOTALL', 'I', 'IGNORECASE', 'M', 'MULTILINE', 'Match', 'Pattern', 'PatternError', 'S', 'U',
+           'UNICODE', 'VERBOSE', 'X', 'compile', 'error', 'escape', 'findall', 'finditer', 'fullmatch', 'match',
+           'purge', 'search', 'split', 'sub', 'subn']
 
 # The library's flags.
 _ASCII, _BYTES, _ANCHORED = 64, 128, 256
 _FLAGS = {I: 1, M: 2, S: 4, X: 16, A: _ASCII, U: 0}
+
+# What a letter after a backslash is in a template.
+_ESCAPES = {'\\': '\\', 'a': '\a', 'b': '\b', 'f': '\f', 'n': '\n', 'r': '\r', 't': '\t', 'v': '\v'}
 
 _UNSET = c.c_size_t(-1).value
 _FOUND, _OK, _MEMORY = 1, 0, -3
@@ -42,6 +48,10 @@ class _Options(c.Structure):
                 ('backtrack_capacity', c.c_size_t)]
 
 
+class _Place(c.Structure):
+    _fields_ = [('pattern', c.c_size_t), ('start', c.c_size_t), ('end', c.c_size_t)]
+
+
 def _library():
     here = os.path.dirname(os.path.abspath(__file__))
     library = c.CDLL(os.environ.get('NFA_LIBRARY') or next(
@@ -50,6 +60,7 @@ def _library():
     for name, result, *arguments in [
             ('nfa_regex_new_with', c.c_int32, handle, text, size, c.POINTER(_Options)),
             ('nfa_regex_why', size, text, size, c.POINTER(_Options), text, size),
+            ('nfa_regex_place', c.c_int32, text, size, c.POINTER(_Options), c.POINTER(_Place)),
             ('nfa_regex_free', None, handle),
             ('nfa_regex_captures', c.c_int32, handle, text, size, size, size, c.POINTER(size), size),
             ('nfa_regex_slot_count', size, handle),
@@ -64,20 +75,35 @@ _lib = _library()
 
 
 class error(Exception):
-    """The text is not a pattern, or the pattern exceeds the size limit."""
+    """The text is not a pattern, or the pattern exceeds the size limit. `pos` is the place in the pattern, if one is
+    known; `lineno` and `colno` are its line and column, counted from 1."""
 
-    def __init__(self, msg, pattern=None):
+    def __init__(self, msg, pattern=None, pos=None):
         super().__init__(f'{msg}: {pattern!r}')
-        self.msg, self.pattern, self.pos = msg, pattern, None
-        if msg.startswith('at ') and isinstance(pattern, str):
-            # The message gives the bytes.
-            self.pos = len(pattern.encode()[:int(msg[3:msg.index('..')])].decode(errors='ignore'))
+        self.msg, self.pattern, self.pos, self.lineno, self.colno = msg, pattern, pos, None, None
+        if pattern is not None and pos is not None:
+            feed = '\n' if isinstance(pattern, str) else b'\n'
+            self.lineno = pattern.count(feed, 0, pos) + 1
+            self.colno = pos - pattern.rfind(feed, 0, pos)
 
 
-def _why(text, flags):
+PatternError = error
+
+
+def _refusal(pattern, text, flags):
+    """The error of a pattern that the library refuses as this text."""
+    options = c.byref(_Options(flags))
     room = c.create_string_buffer(1024)
-    size = _lib.nfa_regex_why(text, len(text), c.byref(_Options(flags)), room, len(room))
-    return room.raw[:size].decode(errors='replace')
+    size = _lib.nfa_regex_why(text, len(text), options, room, len(room))
+    place, pos = _Place(), None
+    if _lib.nfa_regex_place(text, len(text), options, c.byref(place)) == _FOUND:
+        before = text[:place.start].decode(errors='ignore')
+        pos = len(before)
+        if not isinstance(pattern, str):
+            # Some of its bytes are four in the text.
+            ends = accumulate(1 if byte < 0x80 else 4 for byte in pattern)
+            pos = sum(end <= len(before) for end in ends)
+    return error(room.raw[:size].decode(errors='replace'), pattern, pos)
 
 
 def _written(write, *given):
@@ -138,6 +164,8 @@ class _Text:
             self.plain = len(self.raw) == len(string)
         else:
             self.raw, self.plain = bytes(string), True
+        # A position that was asked for, with its offset: the next one is often further on.
+        self.known = 0, 0
 
     def offset(self, position):
         """The byte offset of a position."""
@@ -145,9 +173,12 @@ class _Text:
 
     def position(self, offset):
         """The position of a byte offset; -1 for none."""
-        if offset == _UNSET:
-            return -1
-        return offset if self.plain else len(self.raw[:offset].decode('utf-8', 'surrogatepass'))
+        if self.plain or offset == _UNSET:
+            return -1 if offset == _UNSET else offset
+        at, start = self.known if self.known[1] <= offset else (0, 0)
+        at += len(self.raw[start:offset].decode('utf-8', 'surrogatepass'))
+        self.known = at, offset
+        return at
 
 
 class Match:
@@ -208,29 +239,41 @@ class Match:
         return min(ends)[2] if ends else None
 
     def expand(self, template):
-        """The template: \\1, \\g<1> and \\g<name> stand for groups, and \\n, \\t, \\r and \\\\ for a character."""
+        """The template: \\1, \\g<1> and \\g<name> stand for groups, and escapes as \\n and \\012 for a character."""
         return self.re._template(template)(self)
 
     def __repr__(self):
         return f'<nfa.Match object; span={self.span()}, match={self.group()!r}>'
 
 
+# A thread frees its handles itself, also those of patterns that another thread has dropped: these are not alive.
+_numbers, _alive, _thread = count_up(), WeakValueDictionary(), threading.local()
+
+
+def _own_handles():
+    """The handles that this thread has made, by the number of their pattern and by what they are for."""
+    return _thread.__dict__.setdefault('handles', {})
+
+
 class Pattern:
     """A compiled pattern."""
 
     def __init__(self, pattern, flags=0):
-        self.pattern, self.flags, self._flags = pattern, flags, _flags_of(flags)
+        self.pattern, self._flags = pattern, _flags_of(flags)
+        # As `re` has them, but for those that the pattern sets.
+        self.flags = int(flags | (U if isinstance(pattern, str) and not flags & A else 0))
         if isinstance(pattern, str):
             self._text = pattern
         else:
             # In such a text a byte above 0x7F is its escape.
             self._text = ''.join(chr(byte) if byte < 0x80 else f'\\x{byte:02X}' for byte in pattern)
             self._flags |= _ASCII | _BYTES
-        self._own = threading.local()
+        self._number = next(_numbers)
+        _alive[self._number] = self
         try:
             first = self._compiled('search')
         except ValueError:
-            raise error(_why(self._text.encode(), self._flags), pattern) from None
+            raise _refusal(pattern, self._text.encode(), self._flags) from None
         self.groups = first.count // 2 - 1
         self.groupindex = _group_names(self._text.encode(), self._flags)
 
@@ -239,10 +282,12 @@ class Pattern:
 
     def _compiled(self, how):
         """This thread's handle for `search`, `match` or `fullmatch`."""
-        kept = self._own.__dict__
-        if how not in kept:
-            kept[how] = self._compile(how)
-        return kept[how]
+        own, key = _own_handles(), (self._number, how)
+        if key not in own:
+            for dropped in [it for it in own if it[0] not in _alive]:
+                del own[dropped]
+            own[key] = self._compile(how)
+        return own[key]
 
     def _compile(self, how):
         if how == 'search':
@@ -294,7 +339,9 @@ class Pattern:
                 slots = compiled.search(text.raw, at + 1, end) if at < end else None
             if not slots:
                 return
-            at = last = slots[1]
+            last = slots[1]
+            # From the end of an empty match a search would find it once more.
+            at = last + 1 if slots[0] == last else last
             yield Match(self, text, slots, pos, endpos)
 
     def findall(self, string, pos=0, endpos=None):
@@ -306,6 +353,8 @@ class Pattern:
 
     def split(self, string, maxsplit=0):
         pieces, at = [], 0
+        if maxsplit < 0:
+            return [self._checked(string).string]
         for count, found in enumerate(self.finditer(string), 1):
             pieces += [string[at:found.start()], *found.groups()]
             at = found.end()
@@ -316,6 +365,8 @@ class Pattern:
     def subn(self, repl, string, count=0):
         make = repl if callable(repl) else self._template(repl)
         pieces, at, made = [], 0, 0
+        if count < 0:
+            return self._checked(string).string, 0
         for found in self.finditer(string):
             pieces += [string[at:found.start()], make(found)]
             at, made = found.end(), made + 1
@@ -344,19 +395,26 @@ class Pattern:
 
     def _escape(self, rest, template):
         """What stands for this text after a backslash, a text or the number of a group, and how much of it."""
-        if rest[:1] and rest[0] in '\\ntr':
-            return {'\\': '\\', 'n': '\n', 't': '\t', 'r': '\r'}[rest[0]], 1
-        name, size = None, 0
-        if rest.startswith('g<') and '>' in rest:
-            size = rest.index('>') + 1
-            name = rest[2:size - 1]
-        elif rest[:1].isdigit():
-            size = 2 if rest[1:2].isdigit() else 1
-            name = rest[:size]
-        number = int(name) if name and name.isdigit() else self._index(name)
-        if number is None or number > self.groups:
-            raise error('a template names no group', template)
-        return number, size
+        if named := re_match(r'g<([^>]*)>', rest):
+            return self._group(named[1], template), named.end()
+        if octal := re_match('0[0-7]{0,2}|[0-3][0-7]{2}', rest):
+            return chr(int(octal[0], 8)), octal.end()
+        if number := re_match('[0-9]{1,2}', rest):
+            return self._group(number[0], template), number.end()
+        if rest[:1] in _ESCAPES:
+            return _ESCAPES[rest[0]], 1
+        if not rest or rest[0].isascii() and rest[0].isalpha():
+            raise error(f'bad escape \\{rest[:1]}', template)
+        return '\\' + rest[0], 1
+
+    def _group(self, name, template):
+        """The number of the group that a template names so."""
+        if not (name.isascii() and name.isdigit()):
+            if (number := self._index(name)) is None:
+                raise IndexError(f'unknown group name {name!r}')
+        elif (number := int(name)) > self.groups:
+            raise error(f'invalid group reference {number}', template)
+        return number
 
     def _key(self):
         return type(self.pattern), self.pattern, self.flags

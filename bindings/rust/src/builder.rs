@@ -1,9 +1,11 @@
 //! The settings of a regex, and of a set.
 use crate::shared::Shared;
-use crate::sys::Options;
-use crate::{Error, Regex, RegexSet};
+use crate::sys::{Options, BYTES};
+use crate::text::Text;
+use crate::{Error, RegexOf, RegexSetOf};
+use std::marker::PhantomData;
 
-// The flags of `nfa_regex.h`.
+// The flags of `nfa_regex.h`, but for `BYTES`.
 const CASE_INSENSITIVE: u32 = 1;
 const MULTI_LINE: u32 = 2;
 const DOT_MATCHES_NEW_LINE: u32 = 4;
@@ -11,12 +13,11 @@ const SWAP_GREED: u32 = 8;
 const IGNORE_WHITESPACE: u32 = 16;
 const CRLF: u32 = 32;
 const NO_UNICODE: u32 = 64;
-const BYTES: u32 = 128;
 const ANCHORED: u32 = 256;
 
-/// The settings that builders begin with: as in `regex::bytes`, patterns may match bytes that are not UTF-8, by `(?-u)`.
-fn default_options() -> Options {
-    Options { flags: BYTES, ..Options::default() }
+/// The settings that builders begin with.
+pub fn default_options<T: Text + ?Sized>() -> Options {
+    Options { flags: T::FLAGS, ..Options::default() }
 }
 
 fn with_flag(options: &mut Options, flag: u32, yes: bool) {
@@ -27,12 +28,20 @@ macro_rules! builder {
     ($(#[$about:meta])* $name:ident) => {
         $(#[$about])*
         #[derive(Clone, Debug)]
-        pub struct $name {
+        pub struct $name<T: Text + ?Sized> {
             patterns: Vec<String>,
             options: Options,
+            hay: PhantomData<fn(&T)>,
         }
 
-        impl $name {
+        impl $name<[u8]> {
+            /// Whether patterns may match only UTF-8, and empty matches split no character.
+            pub fn utf8(&mut self, yes: bool) -> &mut Self {
+                self.flag(BYTES, !yes)
+            }
+        }
+
+        impl<T: Text + ?Sized> $name<T> {
             fn flag(&mut self, flag: u32, yes: bool) -> &mut Self {
                 with_flag(&mut self.options, flag, yes);
                 self
@@ -73,11 +82,6 @@ macro_rules! builder {
                 self.flag(NO_UNICODE, !yes)
             }
 
-            /// Whether patterns may match only UTF-8, and empty matches split no character.
-            pub fn utf8(&mut self, yes: bool) -> &mut Self {
-                self.flag(BYTES, !yes)
-            }
-
             /// Whether each match begins where the search does.
             pub fn anchored(&mut self, yes: bool) -> &mut Self {
                 self.flag(ANCHORED, yes)
@@ -98,53 +102,59 @@ macro_rules! builder {
     };
 }
 
+/// Settings of a [`Regex`](crate::Regex).
+///
+/// ```
+/// use nfa_engines::RegexBuilder;
+///
+/// let regex = RegexBuilder::new("abc").case_insensitive(true).build()?;
+/// assert!(regex.is_match(b"xABC"));
+/// # Ok::<(), nfa_engines::Error>(())
+/// ```
+pub type RegexBuilder = RegexBuilderOf<[u8]>;
+
+/// Settings of a [`RegexSet`](crate::RegexSet).
+///
+/// ```
+/// use nfa_engines::RegexSetBuilder;
+///
+/// let set = RegexSetBuilder::new(["abc", "[0-9]"]).case_insensitive(true).build()?;
+/// assert!(set.is_match(b"xABC"));
+/// # Ok::<(), nfa_engines::Error>(())
+/// ```
+pub type RegexSetBuilder = RegexSetBuilderOf<[u8]>;
+
 builder! {
-    /// Settings of a regex.
-    ///
-    /// ```
-    /// use nfa_engines::RegexBuilder;
-    ///
-    /// let regex = RegexBuilder::new("abc").case_insensitive(true).build()?;
-    /// assert!(regex.is_match(b"xABC"));
-    /// # Ok::<(), nfa_engines::Error>(())
-    /// ```
-    RegexBuilder
+    /// Settings of a regex for haystacks of the type `T`.
+    RegexBuilderOf
 }
 
-impl RegexBuilder {
+impl<T: Text + ?Sized> RegexBuilderOf<T> {
     /// The default settings for this pattern.
-    pub fn new(pattern: &str) -> RegexBuilder {
-        RegexBuilder { patterns: vec![pattern.to_owned()], options: default_options() }
+    pub fn new(pattern: &str) -> Self {
+        RegexBuilderOf { patterns: vec![pattern.to_owned()], options: default_options::<T>(), hay: PhantomData }
     }
 
     /// Compiles the pattern.
-    pub fn build(&self) -> Result<Regex, Error> {
-        Regex::of(Shared::new(self.patterns.clone(), &self.options)?)
+    pub fn build(&self) -> Result<RegexOf<T>, Error> {
+        RegexOf::of(Shared::new(self.patterns.clone(), &self.options)?)
     }
 }
 
 builder! {
-    /// Settings of a set.
-    ///
-    /// ```
-    /// use nfa_engines::RegexSetBuilder;
-    ///
-    /// let set = RegexSetBuilder::new(["abc", "[0-9]"]).case_insensitive(true).build()?;
-    /// assert!(set.is_match(b"xABC"));
-    /// # Ok::<(), nfa_engines::Error>(())
-    /// ```
-    RegexSetBuilder
+    /// Settings of a set for haystacks of the type `T`.
+    RegexSetBuilderOf
 }
 
-impl RegexSetBuilder {
+impl<T: Text + ?Sized> RegexSetBuilderOf<T> {
     /// The default settings for these patterns.
-    pub fn new<P: AsRef<str>>(patterns: impl IntoIterator<Item = P>) -> RegexSetBuilder {
+    pub fn new<P: AsRef<str>>(patterns: impl IntoIterator<Item = P>) -> Self {
         let patterns = patterns.into_iter().map(|pattern| pattern.as_ref().to_owned()).collect();
-        RegexSetBuilder { patterns, options: default_options() }
+        RegexSetBuilderOf { patterns, options: default_options::<T>(), hay: PhantomData }
     }
 
     /// Compiles the patterns.
-    pub fn build(&self) -> Result<RegexSet, Error> {
-        Ok(RegexSet::of(Shared::new(self.patterns.clone(), &self.options)?))
+    pub fn build(&self) -> Result<RegexSetOf<T>, Error> {
+        Ok(RegexSetOf::of(Shared::new(self.patterns.clone(), &self.options)?))
     }
 }

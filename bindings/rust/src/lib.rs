@@ -1,4 +1,5 @@
-//! Regular expressions by a proved engine, in the words of `regex::bytes`. `docs/BINDINGS.md` says what is proved.
+//! Regular expressions by a proved engine, in the words of `regex::bytes`; [`string`] is for `str`. `docs/BINDINGS.md`
+//! says what is proved.
 //!
 //! ```
 //! use nfa_engines::Regex;
@@ -6,7 +7,7 @@
 //! let date = Regex::new(r"(?P<year>\d{4})-(\d\d)")?;
 //! let groups = date.captures(b"on 2024-02").unwrap();
 //! assert_eq!(&groups["year"], b"2024");
-//! assert_eq!(date.replace_all(b"2024-02, 2025-01", "$2/$year"), &b"02/2024, 01/2025"[..]);
+//! assert_eq!(date.replace_all(b"2024-02, 2025-01", b"$2/$year"), &b"02/2024, 01/2025"[..]);
 //! # Ok::<(), nfa_engines::Error>(())
 //! ```
 use std::fmt;
@@ -18,14 +19,17 @@ mod regex;
 mod replace;
 mod set;
 mod shared;
+pub mod string;
 mod sys;
+mod text;
 
-pub use builder::{RegexBuilder, RegexSetBuilder};
-pub use captures::{Captures, Match};
-pub use iter::{CaptureMatches, Matches, Split};
-pub use regex::Regex;
+pub use builder::{RegexBuilder, RegexBuilderOf, RegexSetBuilder, RegexSetBuilderOf};
+pub use captures::{CaptureLocations, Captures, Match};
+pub use iter::{CaptureMatches, Matches, Split, SplitN};
+pub use regex::{Regex, RegexOf};
 pub use replace::{NoExpand, Replacer, ReplacerRef};
-pub use set::{RegexSet, SetMatches};
+pub use set::{RegexSet, RegexSetOf, SetMatches, SetMatchesIter};
+pub use text::Text;
 
 /// Why no regex was made.
 #[derive(Clone, Debug, PartialEq, Eq)]

@@ -1,10 +1,17 @@
 //! What stands in place of a match.
+use crate::text::Text;
 use crate::Captures;
+use std::borrow::Cow;
 
 /// A template (see [`Captures::expand`]), or a function of the groups.
-pub trait Replacer {
+pub trait Replacer<T: Text + ?Sized = [u8]> {
     /// Appends what stands in place of this match.
-    fn replace_append(&mut self, groups: &Captures<'_>, to: &mut Vec<u8>);
+    fn replace_append(&mut self, groups: &Captures<'_, T>, to: &mut T::Owned);
+
+    /// What stands in place of each match, if groups have no part in it.
+    fn no_expansion(&mut self) -> Option<Cow<'_, T>> {
+        None
+    }
 
     /// The same, which can be used again afterwards.
     fn by_ref(&mut self) -> ReplacerRef<'_, Self> {
@@ -16,45 +23,58 @@ pub trait Replacer {
 #[derive(Debug)]
 pub struct ReplacerRef<'a, R: ?Sized>(&'a mut R);
 
-impl<R: Replacer + ?Sized> Replacer for ReplacerRef<'_, R> {
-    fn replace_append(&mut self, groups: &Captures<'_>, to: &mut Vec<u8>) {
+impl<T: Text + ?Sized, R: Replacer<T> + ?Sized> Replacer<T> for ReplacerRef<'_, R> {
+    fn replace_append(&mut self, groups: &Captures<'_, T>, to: &mut T::Owned) {
         self.0.replace_append(groups, to);
     }
-}
 
-impl Replacer for &[u8] {
-    fn replace_append(&mut self, groups: &Captures<'_>, to: &mut Vec<u8>) {
-        groups.expand(self, to);
+    fn no_expansion(&mut self) -> Option<Cow<'_, T>> {
+        self.0.no_expansion()
     }
 }
 
-impl<const N: usize> Replacer for &[u8; N] {
-    fn replace_append(&mut self, groups: &Captures<'_>, to: &mut Vec<u8>) {
-        groups.expand(*self, to);
-    }
+/// Templates of these types, for haystacks of the type after the arrow.
+macro_rules! templates {
+    ($([$($more:tt)*] $own:ty => $hay:ty, $bytes:expr;)*) => {$(
+        impl<$($more)*> Replacer<$hay> for $own {
+            fn replace_append(&mut self, groups: &Captures<'_, $hay>, to: &mut <$hay as ToOwned>::Owned) {
+                let template: fn(&Self) -> &$hay = $bytes;
+                groups.expand(template(self), to);
+            }
+
+            fn no_expansion(&mut self) -> Option<Cow<'_, $hay>> {
+                let template: fn(&Self) -> &$hay = $bytes;
+                let template = template(self);
+                (!Text::bytes(template).contains(&b'$')).then_some(Cow::Borrowed(template))
+            }
+        }
+    )*};
 }
 
-impl Replacer for &Vec<u8> {
-    fn replace_append(&mut self, groups: &Captures<'_>, to: &mut Vec<u8>) {
-        groups.expand(self, to);
-    }
+templates! {
+    [] &[u8] => [u8], |own| own;
+    [const N: usize] &[u8; N] => [u8], |own| *own;
+    [const N: usize] [u8; N] => [u8], |own| own;
+    [] Vec<u8> => [u8], |own| own;
+    [] &Vec<u8> => [u8], |own| own;
+    [] Cow<'_, [u8]> => [u8], |own| own;
+    [] &Cow<'_, [u8]> => [u8], |own| own;
+    [] &str => str, |own| own;
+    [] String => str, |own| own;
+    [] &String => str, |own| own;
+    [] Cow<'_, str> => str, |own| own;
+    [] &Cow<'_, str> => str, |own| own;
 }
 
-impl Replacer for &String {
-    fn replace_append(&mut self, groups: &Captures<'_>, to: &mut Vec<u8>) {
-        groups.expand(self.as_bytes(), to);
-    }
-}
-
-impl Replacer for &str {
-    fn replace_append(&mut self, groups: &Captures<'_>, to: &mut Vec<u8>) {
-        groups.expand(self.as_bytes(), to);
-    }
-}
-
-impl<T: AsRef<[u8]>, F: FnMut(&Captures<'_>) -> T> Replacer for F {
+impl<R: AsRef<[u8]>, F: FnMut(&Captures<'_>) -> R> Replacer for F {
     fn replace_append(&mut self, groups: &Captures<'_>, to: &mut Vec<u8>) {
         to.extend_from_slice(self(groups).as_ref());
+    }
+}
+
+impl<R: AsRef<str>, F: FnMut(&Captures<'_, str>) -> R> Replacer<str> for F {
+    fn replace_append(&mut self, groups: &Captures<'_, str>, to: &mut String) {
+        to.push_str(self(groups).as_ref());
     }
 }
 
@@ -71,5 +91,9 @@ pub struct NoExpand<'b>(pub &'b [u8]);
 impl Replacer for NoExpand<'_> {
     fn replace_append(&mut self, _: &Captures<'_>, to: &mut Vec<u8>) {
         to.extend_from_slice(self.0);
+    }
+
+    fn no_expansion(&mut self) -> Option<Cow<'_, [u8]>> {
+        Some(Cow::Borrowed(self.0))
     }
 }

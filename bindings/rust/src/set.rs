@@ -1,9 +1,11 @@
 //! Which of many patterns match.
-use crate::builder::RegexSetBuilder;
+use crate::builder::RegexSetBuilderOf;
 use crate::shared::Shared;
 use crate::sys::SetHandle;
+use crate::text::Text;
 use crate::Error;
 use std::fmt;
+use std::marker::PhantomData;
 use std::sync::Arc;
 
 /// A set of patterns that says which of them match, in one pass over the haystack.
@@ -17,15 +19,25 @@ use std::sync::Arc;
 /// assert_eq!(found.iter().collect::<Vec<_>>(), [0, 2]);
 /// # Ok::<(), nfa_engines::Error>(())
 /// ```
-#[derive(Clone)]
-pub struct RegexSet {
+pub type RegexSet = RegexSetOf<[u8]>;
+
+/// A set of patterns for haystacks of the type `T`: [`RegexSet`] for bytes, and
+/// [`string::RegexSet`](crate::string::RegexSet). Each thread compiles it once more, as a regex.
+pub struct RegexSetOf<T: Text + ?Sized> {
     shared: Arc<Shared<SetHandle>>,
+    hay: PhantomData<fn(&T)>,
 }
 
-impl RegexSet {
+impl<T: Text + ?Sized> Clone for RegexSetOf<T> {
+    fn clone(&self) -> Self {
+        RegexSetOf::of(self.shared.clone())
+    }
+}
+
+impl<T: Text + ?Sized> RegexSetOf<T> {
     /// Compiles these patterns, numbered from 0 on.
-    pub fn new<P: AsRef<str>>(patterns: impl IntoIterator<Item = P>) -> Result<RegexSet, Error> {
-        RegexSetBuilder::new(patterns).build()
+    pub fn new<P: AsRef<str>>(patterns: impl IntoIterator<Item = P>) -> Result<Self, Error> {
+        RegexSetBuilderOf::new(patterns).build()
     }
 
     /// The set without a pattern. No haystack matches it.
@@ -33,16 +45,16 @@ impl RegexSet {
     /// # Panics
     ///
     /// If memory is refused.
-    pub fn empty() -> RegexSet {
-        RegexSet::new([""; 0]).expect("memory for a set of no pattern")
+    pub fn empty() -> Self {
+        RegexSetOf::new([""; 0]).expect("memory for a set of no pattern")
     }
 
-    pub(crate) fn of(shared: Arc<Shared<SetHandle>>) -> RegexSet {
-        RegexSet { shared }
+    pub(crate) fn of(shared: Arc<Shared<SetHandle>>) -> Self {
+        RegexSetOf { shared, hay: PhantomData }
     }
 
     /// Whether one of the patterns matches.
-    pub fn is_match(&self, hay: &[u8]) -> bool {
+    pub fn is_match(&self, hay: &T) -> bool {
         self.is_match_at(hay, 0)
     }
 
@@ -51,8 +63,8 @@ impl RegexSet {
     /// # Panics
     ///
     /// If the start is past the end.
-    pub fn is_match_at(&self, hay: &[u8], start: usize) -> bool {
-        self.shared.with(|handle| handle.is_match(hay, start))
+    pub fn is_match_at(&self, hay: &T, start: usize) -> bool {
+        self.shared.held().is_match(hay.bytes(), start)
     }
 
     /// Which patterns match.
@@ -60,7 +72,7 @@ impl RegexSet {
     /// # Panics
     ///
     /// If memory is refused.
-    pub fn matches(&self, hay: &[u8]) -> SetMatches {
+    pub fn matches(&self, hay: &T) -> SetMatches {
         self.matches_at(hay, 0)
     }
 
@@ -69,9 +81,9 @@ impl RegexSet {
     /// # Panics
     ///
     /// If the start is past the end, or memory is refused.
-    pub fn matches_at(&self, hay: &[u8], start: usize) -> SetMatches {
+    pub fn matches_at(&self, hay: &T, start: usize) -> SetMatches {
         let mut marks = vec![0; self.len()];
-        let answered = self.shared.with(|handle| handle.matches(hay, start, &mut marks));
+        let answered = self.shared.held().matches(hay.bytes(), start, &mut marks);
         assert!(answered, "memory was refused for the patterns that match");
         SetMatches { marks }
     }
@@ -92,13 +104,13 @@ impl RegexSet {
     }
 }
 
-impl Default for RegexSet {
-    fn default() -> RegexSet {
-        RegexSet::empty()
+impl<T: Text + ?Sized> Default for RegexSetOf<T> {
+    fn default() -> Self {
+        RegexSetOf::empty()
     }
 }
 
-impl fmt::Debug for RegexSet {
+impl<T: Text + ?Sized> fmt::Debug for RegexSetOf<T> {
     fn fmt(&self, f: &mut fmt::Formatter<'_>) -> fmt::Result {
         write!(f, "RegexSet({:?})", self.patterns())
     }
@@ -137,8 +149,39 @@ impl SetMatches {
     }
 
     /// The numbers of those that match, from the least on.
-    pub fn iter(&self) -> impl DoubleEndedIterator<Item = usize> + '_ {
-        (0..self.marks.len()).filter(|&pattern| self.matched(pattern))
+    pub fn iter(&self) -> SetMatchesIter<'_> {
+        SetMatchesIter { marks: self.marks.iter().enumerate() }
+    }
+}
+
+/// The numbers of the patterns that match, from the least on.
+#[derive(Clone, Debug)]
+pub struct SetMatchesIter<'a> {
+    marks: std::iter::Enumerate<std::slice::Iter<'a, u8>>,
+}
+
+impl Iterator for SetMatchesIter<'_> {
+    type Item = usize;
+
+    fn next(&mut self) -> Option<usize> {
+        self.marks.find(|(_, &mark)| mark == 1).map(|(pattern, _)| pattern)
+    }
+}
+
+impl DoubleEndedIterator for SetMatchesIter<'_> {
+    fn next_back(&mut self) -> Option<usize> {
+        self.marks.rfind(|(_, &mark)| mark == 1).map(|(pattern, _)| pattern)
+    }
+}
+
+impl std::iter::FusedIterator for SetMatchesIter<'_> {}
+
+impl<'a> IntoIterator for &'a SetMatches {
+    type Item = usize;
+    type IntoIter = SetMatchesIter<'a>;
+
+    fn into_iter(self) -> SetMatchesIter<'a> {
+        self.iter()
     }
 }
 

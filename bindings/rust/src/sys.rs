@@ -50,6 +50,7 @@ extern "C" {
     fn nfa_regex_captures(
         re: *mut Raw, hay: *const u8, len: usize, start: usize, end: usize, slots: *mut usize, n: usize,
     ) -> i32;
+    fn nfa_regex_slot_count(re: *mut Raw) -> usize;
     fn nfa_regex_group_index(re: *mut Raw, pattern: usize, name: *const u8, len: usize, index: *mut usize) -> i32;
     fn nfa_regex_group_names(
         pattern: *const u8, len: usize, options: *const Options, to: *mut u8, room: usize, count: *mut usize,
@@ -68,6 +69,9 @@ extern "C" {
     ) -> i32;
 }
 
+/// The flag by which a pattern may match bytes that are not UTF-8.
+pub const BYTES: u32 = 128;
+
 const FOUND: i32 = 1;
 const OK: i32 = 0;
 const RANGE: i32 = -2;
@@ -79,9 +83,18 @@ pub trait Handle: Sized + 'static {
 }
 
 /// What a search by a full handle says.
+#[inline]
 fn found(code: i32) -> bool {
-    assert!(code != RANGE, "the start is past the end of the haystack");
+    if code < 0 {
+        refused(code);
+    }
     code == FOUND
+}
+
+/// A full handle refuses only a start past the end, and want of memory, which is said otherwise.
+#[cold]
+fn refused(code: i32) {
+    assert!(code != RANGE, "the start is past the end of the haystack");
 }
 
 /// A message of any length, which `write` writes as far as there is room, and returns the length of.
@@ -110,10 +123,11 @@ fn text(write: impl Fn(&mut [u8]) -> (i32, usize)) -> Result<String, Error> {
 // SAFETY of all calls: a slice of Rust is never null, nor longer than `isize::MAX`; what is written is borrowed
 // mutably, so it overlaps nothing; and `&mut self` makes one call at a time.
 
-/// A full handle of one pattern. Neither `Send` nor `Sync`, since it has a pointer: a handle stays on the thread that
-/// made it.
+/// A full handle of one pattern, with room for the slots of its groups. Neither `Send` nor `Sync`, since it has a
+/// pointer: a handle stays on the thread that made it.
 pub struct RegexHandle {
     raw: Raw,
+    slots: Vec<usize>,
 }
 
 impl Drop for RegexHandle {
@@ -126,9 +140,12 @@ impl Drop for RegexHandle {
 impl Handle for RegexHandle {
     fn new(patterns: &[String], options: &Options) -> Result<RegexHandle, Error> {
         let (pattern, len) = slice!(patterns[0]);
-        let mut handle = RegexHandle { raw: Raw::empty() };
+        let mut handle = RegexHandle { raw: Raw::empty(), slots: Vec::new() };
         match unsafe { nfa_regex_new_with(&mut handle.raw, pattern, len, options) } {
-            OK => Ok(handle),
+            OK => {
+                handle.slots.resize(unsafe { nfa_regex_slot_count(&mut handle.raw) }, usize::MAX);
+                Ok(handle)
+            }
             MEMORY => Err(Error::Memory),
             _ => Err(Error::Pattern(message(|to| unsafe {
                 nfa_regex_why(pattern, len, options, to.as_mut_ptr(), to.len())
@@ -138,27 +155,37 @@ impl Handle for RegexHandle {
 }
 
 impl RegexHandle {
+    #[inline]
     pub fn is_match(&mut self, hay: &[u8], start: usize) -> bool {
         let (at, len) = slice!(hay);
         found(unsafe { nfa_regex_is_match(&mut self.raw, at, len, start, len) })
     }
 
+    #[inline]
     pub fn find(&mut self, hay: &[u8], start: usize) -> Option<(usize, usize)> {
         let (at, len) = slice!(hay);
         let mut m = RawMatch::default();
         found(unsafe { nfa_regex_find(&mut self.raw, at, len, start, len, &mut m) }).then_some((m.start, m.end))
     }
 
+    #[inline]
     pub fn shortest_match(&mut self, hay: &[u8], start: usize) -> Option<usize> {
         let (at, len) = slice!(hay);
         let mut end = 0;
         found(unsafe { nfa_regex_shortest_match(&mut self.raw, at, len, start, len, &mut end) }).then_some(end)
     }
 
-    pub fn captures(&mut self, hay: &[u8], start: usize, slots: &mut [usize]) -> bool {
+    /// The match, whose groups are then in the slots.
+    #[inline]
+    pub fn captures(&mut self, hay: &[u8], start: usize) -> Option<(usize, usize)> {
         let (at, len) = slice!(hay);
-        let (to, n) = (slots.as_mut_ptr(), slots.len());
-        found(unsafe { nfa_regex_captures(&mut self.raw, at, len, start, len, to, n) })
+        let (to, n) = (self.slots.as_mut_ptr(), self.slots.len());
+        let code = unsafe { nfa_regex_captures(&mut self.raw, at, len, start, len, to, n) };
+        found(code).then(|| (self.slots[0], self.slots[1]))
+    }
+
+    pub fn slots(&self) -> &[usize] {
+        &self.slots
     }
 
     pub fn group_index(&mut self, name: &str) -> Option<usize> {

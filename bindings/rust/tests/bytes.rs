@@ -38,7 +38,8 @@ fn groups() {
     assert_eq!((&groups[0], &groups["word"], groups.get(2), groups.get(3)), (&b"foo"[..], &b"foo"[..], None, None));
     assert_eq!((groups.get(4), groups.get(usize::MAX), groups.name("other")), (None, None, None));
     assert_eq!(groups.iter().flatten().count(), 2);
-    let words: Vec<_> = regex.captures_iter(b"a1 ! b").map(|groups| groups.name("word").map(|m| m.as_bytes())).collect();
+    let word = |groups: nfa_engines::Captures<'static>| groups.name("word").map(|m| m.as_bytes());
+    let words: Vec<_> = regex.captures_iter(b"a1 ! b").map(word).collect();
     assert_eq!(words, [Some(&b"a"[..]), None, Some(&b"b"[..])]);
 }
 
@@ -85,15 +86,16 @@ fn splits() {
 #[test]
 fn replaces() {
     let regex = Regex::new("(?P<a>[a-z])([0-9])").unwrap();
-    assert_eq!(regex.replace_all(b"x1 y2", "$2$a"), &b"1x 2y"[..]);
-    assert_eq!(regex.replace_all(b"x1 y2", "${2}$x_"), &b"1 2"[..]);
+    assert_eq!(regex.replace_all(b"x1 y2", b"$2$a"), &b"1x 2y"[..]);
+    assert_eq!(regex.replace_all(b"x1 y2", b"${2}$x_"), &b"1 2"[..]);
     assert_eq!(regex.replace(b"x1 y2", &b"$$$1-"[..]), &b"$x- y2"[..]);
     assert_eq!(regex.replacen(b"x1 y2 z3", 2, NoExpand(b"$1")), &b"$1 $1 z3"[..]);
     assert_eq!(regex.replace_all(b"x1", |groups: &nfa_engines::Captures| groups[1].to_ascii_uppercase()), &b"X"[..]);
-    assert!(matches!(regex.replace_all(b"none", "$1"), std::borrow::Cow::Borrowed(b"none")));
-    assert_eq!(Regex::new("x*").unwrap().replace_all(b"axb", "-"), &b"-a-b-"[..]);
-    let mut with = "$b";
-    assert_eq!(regex.replace(b"x1", with.by_ref()), regex.replace_all(b"x1", &String::from(with)));
+    assert!(matches!(regex.replace_all(b"none", b"$1"), std::borrow::Cow::Borrowed(b"none")));
+    assert_eq!(Regex::new("x*").unwrap().replace_all(b"axb", b"-"), &b"-a-b-"[..]);
+    let mut with = &b"$b"[..];
+    assert_eq!(regex.replace(b"x1", with.by_ref()), regex.replace_all(b"x1", with.to_vec()));
+    assert_eq!((with.no_expansion(), (&b"b"[..]).no_expansion()), (None, Some(b"b"[..].into())));
 }
 
 #[test]

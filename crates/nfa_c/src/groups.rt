@@ -71,6 +71,8 @@ pub extern "C" fn nfa_regex_group_index(
 ) -> i32
     ensures index { IfSome regex.old.slot.value (λ own. IsUtf8 name.now → pattern ≤ 2147483646 →
         Writes (group_named own.regex.choice.nfa.groups pattern name.now) result index.old index.new) }
+    ensures unknown { IfSome regex.old.slot.value (λ own. IsUtf8 name.now → (pattern ≤ 2147483646 → ⊥) →
+        result ≡ pos 0) }
     ensures utf8 { (IsUtf8 name.now → ⊥) → result ≡ utf8_code }
     ensures empty { IsUtf8 name.now → regex.old.slot.value ≡ None → result ≡ empty_code }
     ensures stays { result ≢ pos 1 → index.new ≡ index.old }
