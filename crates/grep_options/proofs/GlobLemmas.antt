@@ -1,5 +1,5 @@
 -- What a set has, by its first characters and the others.
-use Rattle.std.proofs.Common.{◌≡◌, ◌∙◌, ℕ, ◌-◌, ◌≤◌, Bool, true, false, ◌&&◌, ◌==◌, List, [], ◌∷◌, length, drop, take, get_or, refl, ap, arith, nat_le, take_all, length-drop}
+use Rattle.std.proofs.Common.{◌≡◌, ◌∙◌, ℕ, ◌-◌, ◌≤◌, true, false, ◌&&◌, ◌==◌, List, [], ◌∷◌, length, drop, take, get_or, refl, ap, arith, nat_le, take_all, length-drop}
 use Rattle.grep_options.specs.Globs.{Letter, means, set_has}
 
 -- the other characters, as a slice has them

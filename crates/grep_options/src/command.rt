@@ -321,11 +321,12 @@ fn folders_of(matches: &ArgMatches<'_>) -> Folders {
     }
 }
 
-/// Returns which devices are searched.
+/// Returns which devices are searched. Without an option `-R` searches all.
 fn devices_of(matches: &ArgMatches<'_>) -> Devices {
     match matches.get_str("devices") {
         Some("read") => Devices::Read,
         Some("skip") => Devices::Skip,
+        _ if matches.get_flag("dereference-recursive") => Devices::Read,
         _ => Devices::Named,
     }
 }

@@ -467,7 +467,7 @@ fn with_kinds<'w>(alloc: Global, command: Command<'w>) -> Result<Command<'w>, Al
                 Some('D'),
                 "ACTION",
                 DEVICES,
-                "Do this with devices, pipes and sockets; those in folders are skipped without it",
+                "Do this with devices, pipes and sockets; without it, -r skips those in folders",
             ),
             rival(
                 "text",
