@@ -1,6 +1,6 @@
 -- What a glob matches: `?` is any character, `*` any text, and `[..]` one of some characters, or with `!` or `^` first
 -- none of them. After a backslash a character is itself. Texts are lists of characters.
-use Rattle.std.specs.Prelude.{◌≡◌, ℕ, ◌+◌, Bool, true, false, not, ◌&&◌, ◌||◌, List, [], ◌∷◌, length, zero, suc, option_map, if◌then◌else◌, ◌==◌, nat_le, Option, None, Some, drop, take, position}
+use Rattle.std.specs.Prelude.{ℕ, ◌+◌, Bool, true, false, not, ◌&&◌, ◌||◌, List, [], ◌∷◌, length, zero, suc, option_map, if◌then◌else◌, ◌==◌, nat_le, Option, None, Some, drop, take, position}
 use Rattle.std.specs.Str.{chars}
 pub use Rattle.grep_options.specs.declared.rules.Rule.{Rule}
 pub use Rattle.grep_options.specs.declared.glob.Letter.{Letter}
