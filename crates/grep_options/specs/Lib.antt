@@ -1,2 +1,3 @@
+pub mod Globs
 pub mod Reports
 pub mod Texts

@@ -18,4 +18,4 @@ limit_of _ limit = min limit 1
 -- around which lines others are printed: around none if no lines are printed
 abbrev pub context_of : Report → Context → Context
 context_of Lines context = context
-context_of _ context = record { before = 0; after = 0; separated = false; coloured = false }
+context_of _ context = record context { before = 0; after = 0; separated = false; coloured = false }

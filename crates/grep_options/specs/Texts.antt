@@ -16,4 +16,9 @@ options_error_text (error.NotText number text) =
     Some (codes "argument " ++ decimal number ++ codes " is not UTF-8: " ++ string_bytes text)
 options_error_text error.Limit = Some (codes "invalid max count")
 options_error_text error.Context = Some (codes "invalid context length argument")
+options_error_text (error.Class glob) = Some (string_bytes glob ++ codes ": write [a-z] and not [[:lower:]]")
+options_error_text (error.Basic pattern) =
+    Some (string_bytes pattern ++ codes ": write it as for -E, and -E and not -G")
+options_error_text (error.Perl pattern) =
+    Some (string_bytes pattern ++ codes ": write it as for -E, and -E and not -P")
 options_error_text _ = None

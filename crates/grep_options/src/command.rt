@@ -1,7 +1,10 @@
 //! What the arguments of the command line ask for.
 use crate::error::OptionsError;
 use crate::flags::with_flags;
-use crate::options::{Bounds, Context, Options, Report, When};
+use crate::given::{file_rules_of, folder_rules_of, texts_of};
+use crate::options::{BinaryFiles, Bounds, Context, Devices, Folders, Options, Report, When};
+use crate::rules::Rule;
+use crate::syntax::Syntax;
 use clap::{Arg, ArgAction, ArgMatches, Error};
 use std::alloc::{AllocError, Global};
 
@@ -18,6 +21,13 @@ A line is of any bytes. It ends at a line feed, and a carriage return before the
 in the file of -f. Text is UTF-8; with -w, a byte that is not UTF-8 belongs to no word.
 A file that is the output, too, is not searched, and neither is one whose name is not UTF-8: the status is 2 then.
 Of a file that is not text, which has a byte 0 in what is read first, no lines are printed without -a.
+The beginning of a long option will do, if no other one begins with it.
+
+In a glob, ? is any character, * any text, slashes too, and [a-z] one of these characters, or [!a-z] any other one.
+A backslash takes the meaning of the next character. A glob has to match a whole name: in a folder, the name there;
+as an argument, the argument, or what comes after a slash in it. The last of --include and --exclude that matches
+decides. If none does, the file is searched unless the first one is --include. Hidden folders are searched, too, and
+what .gitignore names: write --exclude-dir=.git, or --exclude.
 
 Status: 0 if a line was selected, 1 if none was, 2 after an error.";
 
@@ -30,13 +40,18 @@ pub struct Arguments<'w> {
     /// The search of a file ends after this many selected lines.
     pub limit: u64,
     /// Which lines around a selected one are printed.
-    pub context: Context,
+    pub context: Context<'w>,
     /// When colours are printed, of which the options do not know yet.
     pub coloured: When,
-    /// Lines are printed also of files that are not text.
-    pub text: bool,
-    /// Folders are searched, with all in them.
-    pub recursive: bool,
+    /// The syntax that the patterns are said to have.
+    pub syntax: Syntax,
+    pub binary: BinaryFiles,
+    pub folders: Folders,
+    pub devices: Devices,
+    /// Links in folders are followed.
+    pub links: bool,
+    /// The name of standard input, as it is printed.
+    pub label: &'w str,
     /// The names of inputs are not printed.
     pub unnamed: bool,
     /// Files that cannot be read are not named.
@@ -48,6 +63,18 @@ pub struct Arguments<'w> {
     /// The files with more patterns, one on each line.
     pub pattern_files: Vec<&'w str>,
     pub files: Vec<&'w str>,
+    /// Which files are left out, and which folders.
+    pub file_rules: Vec<Rule<'w>>,
+    pub folder_rules: Vec<Rule<'w>>,
+    /// The other values of options, which have to be text.
+    pub texts: Vec<&'w str>,
+}
+
+impl<'w> Arguments<'w> {
+    /// Returns whether folders are searched, with all in them.
+    pub fn recurses(&self) -> bool {
+        self.folders == Folders::Recurse
+    }
 }
 
 /// What the arguments ask for.
@@ -70,7 +97,9 @@ pub fn parse<'w>(alloc: Global, words: &'w [&'w str]) -> Result<Command<'w>, Opt
         // -h has a meaning of its own.
         .disable_help_flag(true)
         // An option may be given several times.
-        .args_override_self(true);
+        .args_override_self(true)
+        // The beginning of a long option that no other one has will do.
+        .infer_long_args(true);
     let command = with_flags(alloc, command)?.arg(words_argument(alloc)?)?;
     match command.try_get_matches_from(words) {
         Ok(matches) => Ok(Command::Search(read_matches(alloc, &matches)?)),
@@ -96,6 +125,9 @@ fn read_matches<'w>(
     // Errors come first, while there are no lists to let go.
     let limit = limit_of(matches.get_str("max-count"))?;
     let context = context_of(matches)?;
+    let file_rules = file_rules_of(alloc, matches)?;
+    let folder_rules = folder_rules_of(alloc, matches)?;
+    let texts = texts_of(alloc, matches)?;
     let mut patterns = strs_of(alloc, matches, "regexp")?;
     let pattern_files = strs_of(alloc, matches, "file")?;
     let mut files = strs_of(alloc, matches, "words")?;
@@ -109,14 +141,21 @@ fn read_matches<'w>(
         limit,
         context,
         coloured: when_of(matches.get_str("color")),
-        recursive: matches.get_flag("recursive"),
+        syntax: syntax_of(matches),
+        binary: binary_of(matches),
+        folders: folders_of(matches),
+        devices: devices_of(matches),
+        links: matches.get_flag("dereference-recursive"),
+        label: matches.get_str("label").unwrap_or("(standard input)"),
         unnamed: matches.get_flag("no-filename"),
-        text: matches.get_flag("text"),
         silent: matches.get_flag("no-messages"),
         line_buffered: matches.get_flag("line-buffered"),
         patterns,
         pattern_files,
         files,
+        file_rules,
+        folder_rules,
+        texts,
     })
 }
 
@@ -148,6 +187,7 @@ fn options_of(matches: &ArgMatches<'_>, several: bool) -> Options {
         inverted: matches.get_flag("invert-match"),
         only: matches.get_flag("only-matching"),
         named: with || several && !without,
+        zero_names: matches.get_flag("null"),
         which: matches.get_flag("which"),
         numbers: matches.get_flag("line-number"),
         offsets: matches.get_flag("byte-offset"),
@@ -216,15 +256,19 @@ fn number_of(text: &str) -> Option<(u64, bool)> {
 }
 
 /// Returns which lines around a selected one are printed. `-A` and `-B` go before `-C`.
-fn context_of(matches: &ArgMatches<'_>) -> Result<Context, OptionsError> {
+fn context_of<'w>(matches: &ArgMatches<'w>) -> Result<Context<'w>, OptionsError> {
     let around = count_of(matches.get_str("context"))?;
     let before = count_of(matches.get_str("before-context"))?.or(around);
     let after = count_of(matches.get_str("after-context"))?.or(around);
     Ok(Context {
         before: before.unwrap_or(0) as usize,
         after: after.unwrap_or(0),
-        separated: before.is_some() || after.is_some(),
+        separated: (before.is_some() || after.is_some()) && !matches.get_flag("no-group-separator"),
         coloured: false,
+        separator: matches
+            .get_str("group-separator")
+            .unwrap_or("--")
+            .as_bytes(),
     })
 }
 
@@ -236,5 +280,53 @@ fn count_of(value: Option<&str>) -> Result<Option<u64>, OptionsError> {
     match number_of(value) {
         Some((count, false)) => Ok(Some(count)),
         _ => Err(OptionsError::Context),
+    }
+}
+
+/// Returns the syntax that the patterns are said to have.
+fn syntax_of(matches: &ArgMatches<'_>) -> Syntax {
+    if matches.get_flag("basic-regexp") {
+        Syntax::Basic
+    } else if matches.get_flag("perl-regexp") {
+        Syntax::Perl
+    } else {
+        Syntax::Own
+    }
+}
+
+/// Returns what is done with files that are not text.
+fn binary_of(matches: &ArgMatches<'_>) -> BinaryFiles {
+    if matches.get_flag("text") {
+        return BinaryFiles::Text;
+    }
+    if matches.get_flag("no-binary") {
+        return BinaryFiles::WithoutMatch;
+    }
+    match matches.get_str("binary-files") {
+        Some("text") => BinaryFiles::Text,
+        Some("without-match") => BinaryFiles::WithoutMatch,
+        _ => BinaryFiles::Message,
+    }
+}
+
+/// Returns what is done with folders.
+fn folders_of(matches: &ArgMatches<'_>) -> Folders {
+    if matches.get_flag("recursive") || matches.get_flag("dereference-recursive") {
+        return Folders::Recurse;
+    }
+    match matches.get_str("directories") {
+        Some("recurse") => Folders::Recurse,
+        Some("skip") => Folders::Skip,
+        _ => Folders::Read,
+    }
+}
+
+/// Returns which devices are searched. Without an option `-R` searches all.
+fn devices_of(matches: &ArgMatches<'_>) -> Devices {
+    match matches.get_str("devices") {
+        Some("read") => Devices::Read,
+        Some("skip") => Devices::Skip,
+        _ if matches.get_flag("dereference-recursive") => Devices::Read,
+        _ => Devices::Named,
     }
 }

@@ -15,6 +15,12 @@ pub enum OptionsError {
     Limit,
     /// The value of `-A`, `-B` or `-C` is not a number.
     Context,
+    /// This glob has a class of characters in a set.
+    Class(String),
+    /// This pattern may mean something else in grep's basic syntax.
+    Basic(String),
+    /// This pattern may mean something else in Perl's syntax.
+    Perl(String),
     /// The file with patterns that has this name could not be read.
     PatternFile { name: String, error: io::Error },
 }
@@ -33,6 +39,13 @@ impl fmt::Display for OptionsError {
             OptionsError::Arguments(error) => write!(f, "cannot read the arguments: {error}"),
             OptionsError::Limit => f.write_str("invalid max count"),
             OptionsError::Context => f.write_str("invalid context length argument"),
+            OptionsError::Class(glob) => write!(f, "{glob}: write [a-z] and not [[:lower:]]"),
+            OptionsError::Basic(pattern) => {
+                write!(f, "{pattern}: write it as for -E, and -E and not -G")
+            }
+            OptionsError::Perl(pattern) => {
+                write!(f, "{pattern}: write it as for -E, and -E and not -P")
+            }
             OptionsError::PatternFile { name, error } => write!(f, "{name}: {error}"),
         }
     }

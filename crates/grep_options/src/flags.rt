@@ -5,19 +5,32 @@ use std::alloc::{AllocError, Global};
 /// When colours are printed.
 const WHENS: &[&str] = &["auto", "always", "never"];
 
+/// What is done with files that are not text, with folders, and with devices.
+const TYPES: &[&str] = &["binary", "text", "without-match"];
+
+const FOLDERS: &[&str] = &["read", "recurse", "skip"];
+
+const DEVICES: &[&str] = &["read", "skip"];
+
 /// An option without a value, or with one that may begin with a hyphen.
 #[derive(Clone, Copy)]
 struct Entry {
     name: &'static str,
+    /// The name is an option, and not only the letter.
+    long: bool,
     letter: Option<char>,
     /// What the help calls the value.
     value: Option<&'static str>,
+    /// The values that it may have, or none if it may have any.
+    values: &'static [&'static str],
     /// All uses count, and not only the last one.
     many: bool,
-    /// Of this option and that one, only the last one counts.
-    rival: Option<&'static str>,
+    /// Of this option and those, only the last one counts.
+    rivals: &'static [&'static str],
     /// Another name.
     alias: Option<&'static str>,
+    /// Another letter.
+    other: Option<char>,
     help: &'static str,
 }
 
@@ -27,6 +40,9 @@ pub fn with_flags<'w>(alloc: Global, command: Command<'w>) -> Result<Command<'w>
     let command = with_reports(alloc, command)?;
     let command = with_limits(alloc, command)?;
     let command = with_lines(alloc, command)?;
+    let command = with_names(alloc, command)?;
+    let command = with_files(alloc, command)?;
+    let command = with_kinds(alloc, command)?;
     with_colours(alloc, command)
 }
 
@@ -34,11 +50,14 @@ pub fn with_flags<'w>(alloc: Global, command: Command<'w>) -> Result<Command<'w>
 fn flag(name: &'static str, letter: char, help: &'static str) -> Entry {
     Entry {
         name,
+        long: true,
         letter: Some(letter),
         value: None,
+        values: &[],
         many: false,
-        rival: None,
+        rivals: &[],
         alias: None,
+        other: None,
         help,
     }
 }
@@ -51,11 +70,24 @@ fn long_flag(name: &'static str, help: &'static str) -> Entry {
     }
 }
 
-/// An option of which, and of that one, only the last one counts.
-fn rival(name: &'static str, letter: char, rival: &'static str, help: &'static str) -> Entry {
+/// An option of which, and of those, only the last one counts.
+fn rival(
+    name: &'static str,
+    letter: char,
+    rivals: &'static [&'static str],
+    help: &'static str,
+) -> Entry {
     Entry {
-        rival: Some(rival),
+        rivals,
         ..flag(name, letter, help)
+    }
+}
+
+/// An option without a letter, of which, and of those, only the last one counts.
+fn long_rival(name: &'static str, rivals: &'static [&'static str], help: &'static str) -> Entry {
+    Entry {
+        rivals,
+        ..long_flag(name, help)
     }
 }
 
@@ -72,6 +104,37 @@ fn valued(name: &'static str, letter: char, value: &'static str, help: &'static 
     Entry {
         value: Some(value),
         ..flag(name, letter, help)
+    }
+}
+
+/// An option without a letter, with a value.
+fn long_valued(name: &'static str, value: &'static str, help: &'static str) -> Entry {
+    Entry {
+        value: Some(value),
+        ..long_flag(name, help)
+    }
+}
+
+/// An option without a letter, with a value, of which all uses count.
+fn long_listed(name: &'static str, value: &'static str, help: &'static str) -> Entry {
+    Entry {
+        many: true,
+        ..long_valued(name, value, help)
+    }
+}
+
+/// An option with one of these values.
+fn chosen(
+    name: &'static str,
+    letter: Option<char>,
+    value: &'static str,
+    values: &'static [&'static str],
+    help: &'static str,
+) -> Entry {
+    Entry {
+        letter,
+        values,
+        ..long_valued(name, value, help)
     }
 }
 
@@ -98,10 +161,10 @@ fn with_each<'w>(
 
 /// Returns the option, as `clap` has it.
 fn arg_of<'w>(alloc: Global, flag: Entry) -> Result<Arg<'w>, AllocError> {
-    let arg = with_names(Arg::new(alloc, flag.name).help(flag.help), flag);
-    let arg = with_value(arg, flag);
-    let arg = match flag.rival {
-        Some(rival) => arg.overrides_with(rival)?,
+    let arg = with_letter(Arg::new(alloc, flag.name).help(flag.help), flag);
+    let arg = with_value(arg, flag).overrides_with_all(flag.rivals)?;
+    let arg = match flag.other {
+        Some(letter) => arg.short_alias(letter)?,
         None => arg,
     };
     match flag.alias {
@@ -111,8 +174,8 @@ fn arg_of<'w>(alloc: Global, flag: Entry) -> Result<Arg<'w>, AllocError> {
 }
 
 /// Adds the name of the option and its letter.
-fn with_names<'w>(arg: Arg<'w>, flag: Entry) -> Arg<'w> {
-    let arg = arg.long(flag.name);
+fn with_letter<'w>(arg: Arg<'w>, flag: Entry) -> Arg<'w> {
+    let arg = if flag.long { arg.long(flag.name) } else { arg };
     match flag.letter {
         Some(letter) => arg.short(letter),
         None => arg,
@@ -121,6 +184,11 @@ fn with_names<'w>(arg: Arg<'w>, flag: Entry) -> Arg<'w> {
 
 /// Adds the value of the option, if it has one.
 fn with_value<'w>(arg: Arg<'w>, flag: Entry) -> Arg<'w> {
+    let arg = if flag.values.is_empty() {
+        arg
+    } else {
+        arg.value_parser(flag.values)
+    };
     match flag.value {
         Some(value) => arg
             .value_name(value)
@@ -155,19 +223,40 @@ fn with_patterns<'w>(alloc: Global, command: Command<'w>) -> Result<Command<'w>,
             rival(
                 "extended-regexp",
                 'E',
-                "fixed-strings",
-                "Change nothing: patterns have the syntax of the crate regex",
+                &["fixed-strings", "basic-regexp", "perl-regexp"],
+                "Read patterns in the syntax of the crate regex, as without it",
             ),
             rival(
                 "fixed-strings",
                 'F',
-                "extended-regexp",
+                &["extended-regexp", "basic-regexp", "perl-regexp"],
                 "Search for the patterns as texts",
             ),
-            flag(
-                "ignore-case",
-                'i',
-                "Find letters in upper and in lower case",
+            rival(
+                "basic-regexp",
+                'G',
+                &["extended-regexp", "fixed-strings", "perl-regexp"],
+                "Read patterns as -E does; refuse those that mean something else in grep without -E",
+            ),
+            rival(
+                "perl-regexp",
+                'P',
+                &["extended-regexp", "fixed-strings", "basic-regexp"],
+                "Read patterns as -E does; refuse those that mean something else in Perl",
+            ),
+            Entry {
+                rivals: &["no-ignore-case"],
+                other: Some('y'),
+                ..flag(
+                    "ignore-case",
+                    'i',
+                    "Find letters in upper and in lower case; -y is the same",
+                )
+            },
+            long_rival(
+                "no-ignore-case",
+                &["ignore-case"],
+                "Find letters only as they are in the pattern, as without -i",
             ),
             flag(
                 "word-regexp",
@@ -194,13 +283,13 @@ fn with_reports<'w>(alloc: Global, command: Command<'w>) -> Result<Command<'w>, 
             rival(
                 "files-with-matches",
                 'l',
-                "files-without-match",
+                &["files-without-match"],
                 "Print only the names of files with selected lines",
             ),
             rival(
                 "files-without-match",
                 'L',
-                "files-with-matches",
+                &["files-with-matches"],
                 "Print only the names of files without selected lines",
             ),
         ],
@@ -243,11 +332,24 @@ fn with_limits<'w>(alloc: Global, command: Command<'w>) -> Result<Command<'w>, A
                 "NUM",
                 "Print this many lines before and after a selected one, too; -2 is -C 2",
             ),
+            Entry {
+                rivals: &["no-group-separator"],
+                ..long_valued(
+                    "group-separator",
+                    "SEP",
+                    "Print this between groups of lines, and not --",
+                )
+            },
+            long_rival(
+                "no-group-separator",
+                &["group-separator"],
+                "Print nothing between groups of lines",
+            ),
         ],
     )
 }
 
-/// Adds the options that say what is printed of a line, and which files are searched.
+/// Adds the options that say what is printed of a line.
 fn with_lines<'w>(alloc: Global, command: Command<'w>) -> Result<Command<'w>, AllocError> {
     with_each(
         alloc,
@@ -268,31 +370,131 @@ fn with_lines<'w>(alloc: Global, command: Command<'w>) -> Result<Command<'w>, Al
                 "which",
                 "Print the numbers, from 0, of the patterns that match in the line",
             ),
-            rival(
-                "with-filename",
-                'H',
-                "no-filename",
-                "Print the name of the file",
-            ),
-            rival(
-                "no-filename",
-                'h',
-                "with-filename",
-                "Do not print the name of the file",
-            ),
-            flag("no-messages", 's', "Do not name files that cannot be read"),
-            flag(
-                "recursive",
-                'r',
-                "Search folders: all files in them, and in those in them",
-            ),
-            flag("text", 'a', "Print lines of files that are not text, too"),
             flag(
                 "null-data",
                 'z',
                 "Lines end at a byte 0, not at a line feed",
             ),
             long_flag("line-buffered", "Write each line at once"),
+        ],
+    )
+}
+
+/// Adds the options that say how files are named.
+fn with_names<'w>(alloc: Global, command: Command<'w>) -> Result<Command<'w>, AllocError> {
+    with_each(
+        alloc,
+        command,
+        &[
+            rival(
+                "with-filename",
+                'H',
+                &["no-filename"],
+                "Print the name of the file",
+            ),
+            rival(
+                "no-filename",
+                'h',
+                &["with-filename"],
+                "Do not print the name of the file",
+            ),
+            flag(
+                "null",
+                'Z',
+                "Print a byte 0 after the name of a file, and not what else is there",
+            ),
+            long_valued("label", "NAME", "Print this as the name of standard input"),
+            flag("no-messages", 's', "Do not name files that cannot be read"),
+        ],
+    )
+}
+
+/// Adds the options that say which files are searched.
+fn with_files<'w>(alloc: Global, command: Command<'w>) -> Result<Command<'w>, AllocError> {
+    with_each(
+        alloc,
+        command,
+        &[
+            rival(
+                "recursive",
+                'r',
+                &["directories"],
+                "Search folders: all files in them, and in those in them, but no links in them",
+            ),
+            rival(
+                "dereference-recursive",
+                'R',
+                &["directories"],
+                "Search folders, and what links in them lead to",
+            ),
+            long_listed(
+                "include",
+                "GLOB",
+                "Search files whose names match this, and only these",
+            ),
+            long_listed(
+                "exclude",
+                "GLOB",
+                "Do not search files whose names match this",
+            ),
+            long_listed(
+                "exclude-dir",
+                "GLOB",
+                "Do not search folders whose names match this",
+            ),
+        ],
+    )
+}
+
+/// Adds the options that say what is done with files that are not text, with folders and with devices.
+fn with_kinds<'w>(alloc: Global, command: Command<'w>) -> Result<Command<'w>, AllocError> {
+    with_each(
+        alloc,
+        command,
+        &[
+            Entry {
+                rivals: &["recursive", "dereference-recursive"],
+                ..chosen(
+                    "directories",
+                    Some('d'),
+                    "ACTION",
+                    FOLDERS,
+                    "Do this with folders; recurse is -r",
+                )
+            },
+            chosen(
+                "devices",
+                Some('D'),
+                "ACTION",
+                DEVICES,
+                "Do this with devices, pipes and sockets; without it, -r skips those in folders",
+            ),
+            rival(
+                "text",
+                'a',
+                &["no-binary", "binary-files"],
+                "Print lines of files that are not text, too",
+            ),
+            Entry {
+                long: false,
+                ..rival(
+                    "no-binary",
+                    'I',
+                    &["text", "binary-files"],
+                    "Select no lines of files that are not text",
+                )
+            },
+            Entry {
+                rivals: &["text", "no-binary"],
+                ..chosen(
+                    "binary-files",
+                    None,
+                    "TYPE",
+                    TYPES,
+                    "Take files that are not text as this; text is -a, and without-match is -I",
+                )
+            },
+            flag("binary", 'U', "Read files as they are, as without it"),
         ],
     )
 }

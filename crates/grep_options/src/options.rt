@@ -28,6 +28,8 @@ pub struct Options {
     pub only: bool,
     /// Print the name of the input.
     pub named: bool,
+    /// Print a byte 0 after a name, and not what else is there.
+    pub zero_names: bool,
     /// Print the numbers, from 0, of the patterns that match in the line.
     pub which: bool,
     /// Print the number of the line, from 1.
@@ -47,26 +49,52 @@ pub enum When {
     Always,
 }
 
+/// What is done with files that are not text.
+#[derive(Clone, Copy, PartialEq, Eq)]
+pub enum BinaryFiles {
+    /// Their lines are not printed, but a message if one is selected.
+    Message,
+    /// They are searched as text.
+    Text,
+    /// No line of them is selected.
+    WithoutMatch,
+}
+
+/// What is done with folders.
+#[derive(Clone, Copy, PartialEq, Eq)]
+pub enum Folders {
+    /// They are read as files, which is an error.
+    Read,
+    /// They are searched, with all in them.
+    Recurse,
+    /// They are passed over.
+    Skip,
+}
+
+/// Which devices, pipes and sockets are searched.
+#[derive(Clone, Copy, PartialEq, Eq)]
+pub enum Devices {
+    /// Those that an argument names.
+    Named,
+    /// All of them.
+    Read,
+    /// None of them.
+    Skip,
+}
+
 /// Which lines around a selected one are printed, too.
 #[derive(Clone, Copy)]
-pub struct Context {
+pub struct Context<'s> {
     /// This many lines before it.
     pub before: usize,
     /// This many lines after it.
     pub after: u64,
-    /// Print two hyphens, as a line, between groups of lines that are not next to each other in an input.
+    /// Print the separator, as a line, between groups of lines that are not next to each other in an input.
     pub separated: bool,
-    /// Print these in colour.
+    /// Print it in colour.
     pub coloured: bool,
+    pub separator: &'s [u8],
 }
-
-/// No line is printed but those that are selected.
-const NO_CONTEXT: Context = Context {
-    before: 0,
-    after: 0,
-    separated: false,
-    coloured: false,
-};
 
 /// What is printed of an input.
 #[derive(Clone, Copy, PartialEq, Eq)]
@@ -106,10 +134,19 @@ impl Report {
     }
 
     /// Returns which lines around a selected one are printed: none if no lines are.
-    pub fn context(self, context: Context) -> Context
-        ensures { result ≡ context_of self context }
+    pub fn context<'s>(self, context: Context<'s>) -> Context<'s>
+        ensures { result ≡ context_of self context.entry }
     {
-        if self.shows() { context } else { NO_CONTEXT }
+        if self.shows() {
+            return context;
+        }
+        Context {
+            before: 0,
+            after: 0,
+            separated: false,
+            coloured: false,
+            separator: context.separator,
+        }
     }
 }
 
@@ -123,7 +160,7 @@ pub struct Request<'n> {
     /// The search ends after this many selected lines.
     pub limit: u64,
     /// Which lines around a selected one are printed.
-    pub context: Context,
+    pub context: Context<'n>,
     /// Some line of an input before this one was selected.
     pub used: bool,
 }

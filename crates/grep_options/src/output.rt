@@ -1,6 +1,7 @@
 //! What standard input and output are. If an input is the output, too, what is printed would be searched and printed
 //! again, until the disk is full.
 use std::fs;
+use std::fs::Metadata;
 use std::os::unix::fs::MetadataExt;
 
 /// The paths at which the system has what is open as standard input, and as standard output.
@@ -8,9 +9,9 @@ const INPUT: &str = "/proc/self/fd/0";
 
 const OUTPUT: &str = "/proc/self/fd/1";
 
-/// Which regular file of the system something is.
+/// Which file or folder of the system something is.
 #[derive(Clone, Copy, PartialEq, Eq)]
-struct FileId {
+pub struct FileId {
     device: u64,
     number: u64,
 }
@@ -34,10 +35,15 @@ pub fn is_file_input(rt: &HostRuntime) -> bool {
 /// Returns which regular file is at the path. There is none if something else is there.
 fn file_at(rt: &HostRuntime, path: &str) -> Option<FileId> {
     match fs::metadata(rt, path) {
-        Ok(metadata) if metadata.is_file() => Some(FileId {
-            device: metadata.dev(),
-            number: metadata.ino(),
-        }),
+        Ok(metadata) if metadata.is_file() => Some(id_of(&metadata)),
         _ => None,
+    }
+}
+
+/// Returns which file or folder has these properties.
+pub fn id_of(metadata: &Metadata) -> FileId {
+    FileId {
+        device: metadata.dev(),
+        number: metadata.ino(),
     }
 }

@@ -1,5 +1,6 @@
 //! The paths in folders.
 use crate::marked::marked;
+use crate::output::{FileId, id_of};
 use std::alloc::{AllocError, Global};
 use std::fs::Files;
 use std::io::Read;
@@ -13,8 +14,9 @@ const HELD: usize = 4096;
 pub enum Kind {
     Folder,
     File,
-    /// A link, a device, a pipe or a socket.
-    Other,
+    Link,
+    /// A device, a pipe or a socket.
+    Device,
 }
 
 /// Returns whether the path is that of a folder, or of a link to one.
@@ -25,15 +27,50 @@ pub fn is_folder(rt: &HostRuntime, path: &str) -> bool {
     }
 }
 
-/// Returns what is at the path. No link is followed.
-pub fn kind_of(rt: &HostRuntime, path: &str) -> io::Result<Kind> {
-    let metadata = fs::symlink_metadata(rt, path)?;
+/// Returns what is at the path, or if links are followed, at the end of the link there.
+pub fn kind_of(rt: &HostRuntime, path: &str, follow: bool) -> io::Result<Kind> {
+    let metadata = if follow {
+        fs::metadata(rt, path)?
+    } else {
+        fs::symlink_metadata(rt, path)?
+    };
     if metadata.is_dir() {
         Ok(Kind::Folder)
     } else if metadata.is_file() {
         Ok(Kind::File)
+    } else if metadata.is_symlink() {
+        Ok(Kind::Link)
     } else {
-        Ok(Kind::Other)
+        Ok(Kind::Device)
+    }
+}
+
+/// Returns whether the folder at the path is one of those on the way to it from `top`, which a link led back to.
+pub fn is_loop(rt: &HostRuntime, top: &str, path: &str) -> bool {
+    let Some(own) = folder_id(rt, path) else {
+        return false;
+    };
+    let least = top.trim_end_matches('/').len();
+    let mut inner = path;
+    for _ in 0..path.len() {
+        match inner.rsplit_once('/') {
+            Some((outer, _)) if outer.len() >= least => {
+                if folder_id(rt, outer) == Some(own) {
+                    return true;
+                }
+                inner = outer;
+            }
+            _ => return false,
+        }
+    }
+    false
+}
+
+/// Returns which folder of the system is at the path.
+fn folder_id(rt: &HostRuntime, path: &str) -> Option<FileId> {
+    match fs::metadata(rt, path) {
+        Ok(metadata) => Some(id_of(&metadata)),
+        Err(_) => None,
     }
 }
 

@@ -2,6 +2,24 @@
 //! own, and `-2` is `-C 2`.
 use std::alloc::{AllocError, Global};
 
+/// The long options with a value.
+const VALUED: &[&str] = &[
+    "--regexp",
+    "--file",
+    "--max-count",
+    "--after-context",
+    "--before-context",
+    "--context",
+    "--include",
+    "--exclude",
+    "--exclude-dir",
+    "--label",
+    "--group-separator",
+    "--binary-files",
+    "--directories",
+    "--devices",
+];
+
 /// What the next argument may be.
 #[derive(Clone, Copy)]
 enum Next {
@@ -48,10 +66,16 @@ fn push_word<'w>(next: Next, word: &'w str, split: &mut Vec<&'w str>) -> Result<
 fn after_whole(word: &str) -> Next {
     match word {
         "--" => Next::Word,
-        "--regexp" | "--file" | "--max-count" => Next::Value,
-        "--after-context" | "--before-context" | "--context" => Next::Value,
+        // It begins `--binary-files`, and is an option.
+        "--binary" => Next::Any,
+        _ if begins_valued(word) => Next::Value,
         _ => Next::Any,
     }
+}
+
+/// Returns whether the argument is one of the long options with a value, or the beginning of one.
+fn begins_valued(word: &str) -> bool {
+    word.starts_with("--") && VALUED.iter().any(|name| name.starts_with(word))
 }
 
 /// Appends letters after one hyphen. The pattern, if one is attached there, is an argument of its own.
@@ -97,7 +121,7 @@ fn has_other(letters: &str) -> bool {
 
 /// Returns whether an option with a value, other than `-e`, has this letter.
 fn is_other(letter: u8) -> bool {
-    matches!(letter, b'f' | b'm' | b'A' | b'B' | b'C')
+    matches!(letter, b'f' | b'm' | b'A' | b'B' | b'C' | b'd' | b'D')
 }
 
 /// Returns what the next argument may be after letters without a pattern: a value, if the last letter is the first one

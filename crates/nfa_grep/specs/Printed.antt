@@ -30,6 +30,15 @@ mark_end selected = if selected then colon else 45
 abbrev pub label_if : Bool → Bool → Colour → ℕ → List ℕ → List ℕ
 label_if wanted coloured colour end text = if wanted then label coloured colour end text else []
 
+-- what is after the name of an input: a byte 0 if that is wanted, and else this byte
+abbrev pub name_end : Options → ℕ → List ℕ
+name_end options end = if options.zero_names then 0 ∷ [] else painted options.coloured Separator (end ∷ [])
+
+-- the name of an input, if it is wanted
+abbrev pub name_label : Options → ℕ → List ℕ → List ℕ
+name_label options end name =
+    if options.named then (painted options.coloured Name name ++ name_end options end) else []
+
 -- the numbers, with commas between them
 abbrev pub number_list : List ℕ → List ℕ
 number_list numbers = join_with_byte comma (map decimal numbers)
@@ -46,7 +55,7 @@ mark_of options res line =
 -- what comes before a line or a match: the name of the input, the mark, the number and the offset, if they are wanted
 abbrev pub head : Options → ℕ → List ℕ → List ℕ → ℕ → ℕ → List ℕ
 head options end name mark number offset =
-    label_if options.named options.coloured Name end name
+    name_label options end name
     ++ (label_if options.which options.coloured Number end mark
     ++ (label_if options.numbers options.coloured Number end (decimal number)
     ++ label_if options.offsets options.coloured Number end (decimal offset)))
@@ -164,9 +173,9 @@ selected_count options res limit text =
 abbrev pub read_in : Options → List Re → Context → ℕ → List ℕ → List (List ℕ)
 read_in options res context limit text = read options res context limit 0 (records options.end text)
 
--- two hyphens, as a line
-abbrev pub separator : Bool → List ℕ
-separator coloured = painted coloured Separator (45 ∷ 45 ∷ []) ++ line_feed ∷ []
+-- what is between groups of lines, as a line
+abbrev pub separator : Context → List ℕ
+separator context = painted context.coloured Separator context.separator.now ++ line_feed ∷ []
 
 -- whether some line is selected
 abbrev pub has_selected : List Item → Bool
@@ -181,7 +190,7 @@ is_printed context left item later =
 -- What is printed before a line: the separator, if a line was printed before, a line between both was not or both are
 -- of different inputs, and separators are wanted.
 abbrev pub between : Context → Bool → Bool → List ℕ
-between context used gap = if (used && gap) && context.separated then separator context.coloured else []
+between context used gap = if (used && gap) && context.separated then separator context else []
 
 -- What is printed of these lines. `used` says that some line was printed before, and `gap` that the line before the
 -- first of these was not.
@@ -199,14 +208,15 @@ abbrev pub printed : Bool → Options → List Re → List ℕ → Context → B
 printed wanted options res name context used limit text =
     grouped context used true 0 (items wanted options res name limit 1 0 (records options.end text))
 
--- the name of the input, as a line
+-- the name of the input, as a line, or with a byte 0 after it
 abbrev pub name_line : Options → List ℕ → List ℕ
-name_line options name = painted options.coloured Name name ++ line_feed ∷ []
+name_line options name =
+    painted options.coloured Name name ++ (if options.zero_names then 0 else line_feed) ∷ []
 
 -- the number of the selected lines, as a line
 abbrev pub count_line : Options → List ℕ → ℕ → List ℕ
 count_line options name count =
-    label_if options.named options.coloured Name colon name ++ (decimal count ++ line_feed ∷ [])
+    name_label options colon name ++ (decimal count ++ line_feed ∷ [])
 
 -- what is printed after the lines of an input, of which `count` are selected
 abbrev pub summary : Report → Options → List ℕ → ℕ → List ℕ

@@ -2,12 +2,14 @@
 use crate::fault::Fault;
 use crate::grep::Grep;
 use crate::input::search_named;
+use grep_options::chosen::{Step, is_passed, step_of};
 use grep_options::command::Arguments;
 use grep_options::marked::{is_marked, without_mark};
 use grep_options::options::{Context, Options, Report, Request, When};
 use grep_options::output::is_output;
 use grep_options::patterns::{all_patterns, read_files};
-use grep_options::walk::{Kind, is_folder, kind_of, push_paths};
+use grep_options::syntax::need_same;
+use grep_options::walk::{is_folder, push_paths};
 use std::env::FillError;
 use std::io::{BufWriter, IsTerminal, Write};
 use std::rt::Env;
@@ -19,6 +21,9 @@ const NOT_TEXT: &str = "cannot read the input: its name is not UTF-8";
 
 /// Why an input was not searched: it would have what was printed.
 const IS_OUTPUT: &str = "input file is also the output";
+
+/// Why a folder was not searched again, in itself.
+const IS_LOOP: &str = "warning: recursive directory loop";
 
 /// What the search of all inputs came to.
 #[derive(Clone, Copy)]
@@ -35,6 +40,7 @@ pub struct Outcome {
 pub fn run(rt: &HostRuntime, arguments: &Arguments<'_>) -> Result<Outcome, Fault> {
     let files = read_files(rt, &arguments.pattern_files)?;
     let patterns = all_patterns(rt.alloc(), &arguments.patterns, &files)?;
+    need_same(rt.alloc(), arguments.syntax, &patterns)?;
     search_for(rt, arguments, &patterns)
 }
 
@@ -86,7 +92,7 @@ fn has_colours(rt: &HostRuntime) -> bool {
 
 /// Returns whether names are printed because the only input is a folder.
 fn names_folder(rt: &HostRuntime, arguments: &Arguments<'_>) -> bool {
-    if !arguments.recursive || arguments.unnamed {
+    if !arguments.recurses() || arguments.unnamed {
         return false;
     }
     match arguments.files.first() {
@@ -121,7 +127,7 @@ fn search_all<W: Write>(
 ) -> Result<Outcome, Failure> {
     if !arguments.files.is_empty() {
         search_each(rt, grep, arguments, &arguments.files, out)
-    } else if arguments.recursive {
+    } else if arguments.recurses() {
         search_each(rt, grep, arguments, &["."], out)
     } else {
         search_each(rt, grep, arguments, &["-"], out)
@@ -141,13 +147,7 @@ fn search_each<W: Write>(
         failed: false,
     };
     for name in names {
-        if is_marked(name) {
-            name_fault(rt, arguments, name, NOT_TEXT, &mut outcome);
-        } else if arguments.recursive && *name != "-" && is_folder(rt, name) {
-            search_folder(rt, grep, arguments, name, &mut outcome, out)?;
-        } else {
-            search_one(rt, grep, arguments, name, &mut outcome, out)?;
-        }
+        search_name(rt, grep, arguments, name, &mut outcome, out)?;
         if is_over(arguments, outcome) {
             outcome.failed = false;
             return Ok(outcome);
@@ -156,12 +156,35 @@ fn search_each<W: Write>(
     Ok(outcome)
 }
 
+/// Searches the input or the folder that an argument names, unless it is left out.
+fn search_name<W: Write>(
+    rt: &HostRuntime,
+    grep: &mut Grep<'_>,
+    arguments: &Arguments<'_>,
+    name: &str,
+    outcome: &mut Outcome,
+    out: &mut W,
+) -> Result<(), Failure> {
+    if is_marked(name) {
+        name_fault(rt, arguments, name, NOT_TEXT, outcome);
+        return Ok(());
+    }
+    if is_passed(rt, arguments, name)? {
+        return Ok(());
+    }
+    if arguments.recurses() && name != "-" && is_folder(rt, name) {
+        search_folder(rt, grep, arguments, name, outcome, out)
+    } else {
+        search_one(rt, grep, arguments, name, outcome, out)
+    }
+}
+
 /// Returns whether no other input matters.
 fn is_over(arguments: &Arguments<'_>, outcome: Outcome) -> bool {
     outcome.selected && arguments.report == Report::Nothing
 }
 
-/// Searches the files in the folder, and in those in it, in the order of names. Links in folders are not followed.
+/// Searches the files in the folder, and in those in it, in the order of names.
 fn search_folder<W: Write>(
     rt: &HostRuntime,
     grep: &mut Grep<'_>,
@@ -179,17 +202,18 @@ fn search_folder<W: Write>(
         let Some(path) = paths.pop() else {
             return Ok(());
         };
-        if enter(rt, arguments, path.as_str(), &mut paths, outcome) {
+        if enter(rt, arguments, folder, path.as_str(), &mut paths, outcome) {
             search_one(rt, grep, arguments, path.as_str(), outcome, out)?;
         }
     }
     Ok(())
 }
 
-/// Pushes the paths in the folder, if the path is that of one. Returns whether it is that of a file.
+/// Pushes the paths in the folder, if the path is that of one. Returns whether it is that of a file that is searched.
 fn enter(
     rt: &HostRuntime,
     arguments: &Arguments<'_>,
+    folder: &str,
     path: &str,
     paths: &mut Vec<String>,
     outcome: &mut Outcome,
@@ -198,10 +222,11 @@ fn enter(
         name_fault(rt, arguments, path, NOT_TEXT, outcome);
         return false;
     }
-    match kind_of(rt, path) {
-        Ok(Kind::File) => return true,
-        Ok(Kind::Folder) => push_folder(rt, arguments, path, paths, outcome),
-        Ok(Kind::Other) => {}
+    match step_of(rt, arguments, folder, path) {
+        Ok(Step::Search) => return true,
+        Ok(Step::Enter) => push_folder(rt, arguments, path, paths, outcome),
+        Ok(Step::Loop) => say(rt, arguments, path, IS_LOOP),
+        Ok(Step::Pass) => {}
         Err(error) => name_fault(rt, arguments, path, Failure::Read(error), outcome),
     }
     false
@@ -244,7 +269,7 @@ fn search_one<W: Write>(
         name_fault(rt, arguments, name, IS_OUTPUT, outcome);
         return Ok(());
     }
-    match search_named(rt, grep, arguments.text, request, name, out) {
+    match search_named(rt, grep, arguments.binary, request, name, out) {
         Ok(count) => outcome.selected |= count > 0,
         Err(error) => {
             if !error.is_of_input() {
@@ -265,19 +290,24 @@ fn name_fault<E: fmt::Display + Drop>(
     outcome: &mut Outcome,
 ) {
     outcome.failed = true;
+    say(rt, arguments, name, error);
+}
+
+/// Says this of an input on standard error, if that is wanted.
+fn say<E: fmt::Display + Drop>(rt: &HostRuntime, arguments: &Arguments<'_>, name: &str, said: E) {
     if !arguments.silent {
         // The status says so even if the line cannot be written.
         let shown = shown_name(arguments, name);
-        let _ = eprintln!(rt; "nfa_grep: {shown}: {error}");
+        let _ = eprintln!(rt; "nfa_grep: {shown}: {said}");
     }
 }
 
 /// The name of an input, as it is printed. That of the folder in which the program runs is left out if it was not
 /// given.
-fn shown_name<'n>(arguments: &Arguments<'_>, name: &'n str) -> &'n str {
+fn shown_name<'n>(arguments: &'n Arguments<'_>, name: &'n str) -> &'n str {
     let name = without_mark(name);
     if name == "-" {
-        "(standard input)"
+        arguments.label
     } else if arguments.files.is_empty() {
         name.strip_prefix("./").unwrap_or(name)
     } else {

@@ -16,12 +16,12 @@ use std::collections::VecDeque;
 
 /// What is printed of the lines of an input, of which some are selected.
 #[derive(Drop)]
-pub struct Groups {
+pub struct Groups<'s> {
     alloc: Global,
     /// Lines are printed.
     pub wanted: bool,
     /// Which lines are printed around a selected one.
-    pub context: Context,
+    pub context: Context<'s>,
     /// Some line was printed, of this input or of one before it.
     pub used: bool,
     /// The line before the first one that is kept was not printed.
@@ -36,9 +36,9 @@ pub struct Groups {
     pub text: Vec<u8>,
 }
 
-impl Groups {
+impl<'s> Groups<'s> {
     /// Returns the groups of an input of which no line was taken.
-    pub fn new(alloc: Global, request: Request<'_>) -> Groups
+    pub fn new(alloc: Global, request: Request<'s>) -> Groups<'s>
         ensures wanted { result.wanted ≡ shows request.entry.report }
         ensures printed { (later : List Item) → printed_later result later
             ≡ grouped (context_of request.entry.report request.entry.context) request.entry.used true 0 later }
@@ -216,15 +216,15 @@ impl Groups {
 
 /// Appends the separator, if it is wanted, some line was printed before, and the last one was not.
 fn append_between(
-    context: Context,
+    context: Context<'_>,
     used: bool,
     gap: bool,
     out: &mut Vec<u8>,
 ) -> Result<(), AllocError>
-    ensures { OnOk result (out.new.items ≡ out.old.items ++ between context used gap) }
+    ensures { OnOk result (out.new.items ≡ out.old.items ++ between context.entry used gap) }
 {
     if used && gap && context.separated {
-        append_painted(context.coloured, Colour::Separator, b"--", out)?;
+        append_painted(context.coloured, Colour::Separator, context.separator, out)?;
         out.push(b'\n')?;
     }
     Ok(())

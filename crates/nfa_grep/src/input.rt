@@ -1,7 +1,7 @@
 //! The search of one input: of a file, or of standard input.
 use crate::binary::search_input;
 use crate::grep::Grep;
-use grep_options::options::{Report, Request};
+use grep_options::options::{BinaryFiles, Report, Request};
 use grep_options::output::is_file_input;
 use std::fs;
 use std::io::{BufReader, Read, Write};
@@ -11,16 +11,16 @@ use text_lines::failure::Failure;
 pub fn search_named<W: Write>(
     rt: &HostRuntime,
     grep: &mut Grep<'_>,
-    text: bool,
+    binary: BinaryFiles,
     request: Request<'_>,
     name: &str,
     out: &mut W,
 ) -> Result<u64, Failure> {
     if name == "-" {
-        return search_standard(rt, grep, text, request, out);
+        return search_standard(rt, grep, binary, request, out);
     }
     match fs::open(rt, name) {
-        Ok(file) => search_input(rt, grep, text, request, &mut buffered(rt, file)?, out),
+        Ok(file) => search_input(rt, grep, binary, request, &mut buffered(rt, file)?, out),
         Err(error) => Err(Failure::Read(error)),
     }
 }
@@ -38,15 +38,15 @@ fn buffered<R: Read + Drop>(rt: &HostRuntime, reader: R) -> Result<BufReader<R>,
 fn search_standard<W: Write>(
     rt: &HostRuntime,
     grep: &mut Grep<'_>,
-    text: bool,
+    binary: BinaryFiles,
     request: Request<'_>,
     out: &mut W,
 ) -> Result<u64, Failure> {
     if may_go_on(request) && is_file_input(rt) {
-        search_input(rt, grep, text, request, &mut rt.reader(), out)
+        search_input(rt, grep, binary, request, &mut rt.reader(), out)
     } else {
         let mut input = buffered(rt, rt.reader())?;
-        search_input(rt, grep, text, request, &mut input, out)
+        search_input(rt, grep, binary, request, &mut input, out)
     }
 }
 

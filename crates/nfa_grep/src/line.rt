@@ -1,7 +1,7 @@
 //! What comes before a line where it is printed.
 ghost use Rattle.std.specs.Prelude.{◌≡◌, ◌++◌, OnOk, decimal};
-ghost use Rattle.nfa_grep.specs.Printed.{count_line, head, label_if, name_line, summary};
-ghost use Rattle.nfa_grep.specs.declared.paint.Colour.TheVariants.{Name, Number};
+ghost use Rattle.nfa_grep.specs.Printed.{count_line, head, label_if, name_end, name_label, name_line, summary};
+ghost use Rattle.nfa_grep.specs.declared.paint.Colour.TheVariants.{Number};
 
 use crate::paint::{Colour, append_label, append_painted};
 use grep_options::options::{Options, Report};
@@ -36,15 +36,27 @@ fn append_number(
     Ok(())
 }
 
-/// Appends the name and this byte, if it is wanted.
+/// Appends the name and what is after it, if it is wanted.
 fn append_name(options: Options, end: u8, name: &[u8], out: &mut Vec<u8>) -> Result<(), AllocError>
-    ensures { OnOk result (out.new.items
-        ≡ out.old.items ++ label_if options.named options.coloured Name end name.now) }
+    ensures { OnOk result (out.new.items ≡ out.old.items ++ name_label options end name.now) }
 {
-    if options.named {
-        append_label(options.coloured, Colour::Name, end, name, out)?;
+    if !options.named {
+        return Ok(());
     }
-    Ok(())
+    let coloured = options.coloured;
+    append_painted(coloured, Colour::Name, name, out)?;
+    append_name_end(options, end, out)
+}
+
+/// Appends what is after a name: a byte 0, or this byte.
+fn append_name_end(options: Options, end: u8, out: &mut Vec<u8>) -> Result<(), AllocError>
+    ensures { OnOk result (out.new.items ≡ out.old.items ++ name_end options end) }
+{
+    if options.zero_names {
+        out.push(0)?;
+        return Ok(());
+    }
+    append_painted(options.coloured, Colour::Separator, &[end], out)
 }
 
 /// Appends the mark and this byte, if it is wanted.
@@ -76,12 +88,14 @@ pub fn append_head(
     append_number(coloured, options.offsets, place.end, place.offset, out)
 }
 
-/// Appends the name, as a line.
+/// Appends the name, as a line or with a byte 0 after it.
 fn append_name_line(options: Options, name: &[u8], out: &mut Vec<u8>) -> Result<(), AllocError>
     ensures { OnOk result (out.new.items ≡ out.old.items ++ name_line options name.now) }
 {
     append_painted(options.coloured, Colour::Name, name, out)?;
-    out.extend_from_slice(b"\n")
+    let zero = options.zero_names;
+    out.push(if zero { 0 } else { b'\n' })?;
+    Ok(())
 }
 
 /// Appends the number of selected lines, as a line.

@@ -56,6 +56,7 @@ fn obey(rt: &HostRuntime, words: &[&str]) -> Result<ExitCode, Fault> {
         Command::Search(arguments) => {
             need_text(rt.alloc(), words, &arguments.patterns)?;
             need_text(rt.alloc(), words, &arguments.pattern_files)?;
+            need_text(rt.alloc(), words, &arguments.texts)?;
             Ok(code_of(run(rt, &arguments)?))
         }
         Command::Say(error) => {
