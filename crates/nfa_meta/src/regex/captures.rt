@@ -63,8 +63,8 @@ impl Regex {
         let _ = self.captured_span(input, captures);
     }
 
-    /// Searches as [`Regex::search_captures`] does, and returns the span of the match. It copies no input for a match of
-    /// two slots at the likely start.
+    /// Searches as [`Regex::search_captures`] does, and returns the span of the match. For a match of two slots at the
+    /// likely start it copies no input.
     #[inline]
     pub(super) fn captured_span(
         &mut self,

@@ -22,7 +22,8 @@ impl Regex {
         ensures answer { let x = search_of input.now in IfSome result (λ m.
             IsAnswer self.now.choice.nfa (kind_in self.now.choice) x.earliest x (Some (found_of m).pattern)
             (match_slots (found_of m))) }
-        ensures same { IfSome result (λ m. match_of (Some (found_of m).pattern) (match_slots (found_of m)) ≡ Some (found_of m)) }
+        ensures same { IfSome result (λ m.
+            match_of (Some (found_of m).pattern) (match_slots (found_of m)) ≡ Some (found_of m)) }
         ensures count { IfSome result (λ m. count ≡ 2) }
         ensures pattern { IfSome result (λ m. (found_of m).pattern < length self.now.choice.nfa.patterns) }
         ensures inside { IfSome result (λ m. IsInside (search_of input.now) (found_of m)) }
