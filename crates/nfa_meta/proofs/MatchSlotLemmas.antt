@@ -1,6 +1,6 @@
 -- The slots of a search whose NFA has only those of one match.
-use Rattle.nfa_paths.proofs.Common.{◌≡◌, ◌∙◌, ℕ, zero, suc, ◌*◌, ◌<◌, Bool, true, false, List, [], ◌∷◌, length, nat_le, ap, arith, refl, sym, ◌≤◌, All, if◌then◌else◌, Option, None, Some, option_and_then, option_map, slice_get, slice_set, All-cons, All-nil, slice_get_within, Found, slot_count, Search, match_of, span_at, MatchKind, Span, Automaton, Pair, IsAnswer, IsFindAnswer, path_pattern, slot_among, slot_row}
-use Rattle.nfa_search_base.specs.Common.{IsInside, IsSlotInside}
+use Rattle.nfa_paths.proofs.Common.{◌≡◌, ◌∙◌, ℕ, Ok, zero, suc, ◌*◌, ◌<◌, Bool, true, false, List, [], ◌∷◌, length, nat_le, ap, arith, refl, sym, ◌≤◌, All, if◌then◌else◌, Option, None, Some, option_and_then, option_map, unwrap_or, slice_get, slice_set, All-cons, All-nil, slice_get_within, Found, slot_count, Search, match_of, span_at, MatchKind, Span, Automaton, Pair, IsAnswer, IsFindAnswer, path_pattern, slot_among, slot_row}
+use Rattle.nfa_search_base.specs.Common.{Captured, IsInside, IsSlotInside, answer_span, filled_answer, row_span, span_of}
 use Rattle.nfa_meta.specs.MatchSlots.{match_slots}
 
 -- a match of the span that two slots give
@@ -62,6 +62,27 @@ plain-answer nfa kind earliest x m two h =
         → (option_and_then (path_pattern nfa) path ≡ Some m.pattern) × (slot_row nfa 2 path ≡ match_slots m)
     row None e = cc
     row (Some p) e = pair-row m (path_pattern nfa p) (slot_among nfa p 0) (slot_among nfa p 1) e
+
+-- and these two hold the match
+pub plain-match : (nfa : Automaton) (kind : MatchKind) (earliest : Bool) (x : Search) (m : Found)
+    → slot_count nfa.groups ≡ 2 → IsFindAnswer nfa kind earliest x (Some m)
+    → match_of (Some m.pattern) (match_slots m) ≡ Some m
+unfolding slot_row
+plain-match nfa kind earliest x m two h = row h.path (rw two at h.found_is)
+  where
+    row : (path : Option (List Pair))
+        → Some m ≡ match_of (option_and_then (path_pattern nfa) path) (slot_row nfa 2 path)
+        → match_of (Some m.pattern) (match_slots m) ≡ Some m
+    row None e = cc
+    row (Some p) e =
+        let is = pair-row m (path_pattern nfa p) (slot_among nfa p 0) (slot_among nfa p 1) e in
+        sym (rw is.1 at rw is.0 at e)
+
+-- captures of a match give its span
+pub match-held : (c : Captured) (m : Found) → match_of c.pattern c.slots ≡ Some m
+    → answer_span row_span (filled_answer c (Ok tt)) ≡ Some (span_of m)
+match-held c m is =
+    rw is (ap (λ (o : Option Found). Some (span_of (unwrap_or o (record { pattern = 0; start = 0; end = 0 })))) is)
 
 -- two slots that are both written
 pub two-set : (xs : List (Option ℕ)) (a b : Option ℕ) (m : Found) → length xs ≡ 2 → a ≡ Some m.start

@@ -3,9 +3,10 @@ ghost use Rattle.std.specs.Prelude.{◌≡◌, ◌<◌, ◌≤◌, IfSome, None,
 ghost use Rattle.regex_search_core.specs.Search.{search_of};
 ghost use Rattle.regex_search_core.specs.PatternSets.{number_of};
 ghost use Rattle.nfa_onepass.specs.Ways.{IsOnly, write_each};
-ghost use Rattle.nfa_onepass.specs.Lists.{list_at};
+ghost use Rattle.nfa_onepass.specs.Lists.{HasEmptyList, list_at};
 ghost use Rattle.nfa_onepass.specs.Tables.{IsFor, IsWalking, Takes, limit_of, state_at};
 
+use crate::lists::NO_SLOTS;
 use crate::table::{END, OnePass};
 use nfa_scan_core::starts::start_state;
 use nfa_scan_core::transitions::byte_at;
@@ -137,9 +138,13 @@ impl OnePass {
     /// Sets each slot of the list to the position. Returns whether there is such a list.
     #[inline(always)]
     fn write_list(&self, list: u32, slots: &mut [Option<NonMaxUsize>], at: usize) -> bool
-        requires { at < usize.MAX }
+        requires at { at < usize.MAX }
+        requires first { HasEmptyList self.now.lists.items.items }
         ensures { result ≡ true → slots.new ≡ write_each (list_at self.now.lists.items.items list) at slots.old }
     {
+        if list == NO_SLOTS {
+            return true;
+        }
         match self.lists.get(list) {
             Some(list) => {
                 write_each(list, slots, at);

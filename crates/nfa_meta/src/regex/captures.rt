@@ -1,8 +1,11 @@
 //! Captures for the NFA, and the searches that fill them.
-ghost use Rattle.std.specs.Prelude.{◌≡◌, None, replicate, IfOk, IsOkUnless};
+ghost use Rattle.std.specs.Prelude.{◌≡◌, ◌≤◌, None, Ok, replicate, IfOk, IsOkUnless};
+ghost use Rattle.std.specs.Option.{ForSome};
 ghost use Rattle.regex_search_core.specs.Groups.{slot_count};
 ghost use Rattle.regex_search_core.specs.Search.{search_of};
 ghost use Rattle.nfa_paths.specs.Paths.{IsAnswer};
+ghost use Rattle.nfa_search_base.specs.IterStates.{answer_span};
+ghost use Rattle.nfa_search_base.specs.WithCaptures.{filled_answer, row_span};
 ghost use Rattle.nfa_backtrack.specs.Backtrack.{HoldsNoMore};
 ghost use Rattle.nfa_choice.specs.Answered.{FillsCaptures};
 ghost use Rattle.nfa_choice.specs.ChoiceState.{kind_in};
@@ -12,7 +15,8 @@ ghost use Rattle.nfa_meta.specs.WindowRuns.{RunsByWindow};
 use crate::regex::Regex;
 use crate::regex::match_slots::fill_captures;
 use nfa_engines::error::SearchError;
-use regex_search_core::{Captures, Input};
+use nfa_engines::iter::captures_items::captures_span;
+use regex_search_core::{Captures, Input, Span};
 use std::alloc::Global;
 
 impl Regex {
@@ -56,12 +60,51 @@ impl Regex {
         ensures holds { HoldsNoMore 0 self.old.choice.back self.new.choice.back }
         ensures keeps { KeepsRegex self.old self.new }
     {
+        let _ = self.captured_span(input, captures);
+    }
+
+    /// Searches as [`Regex::search_captures`] does, and returns the span of the match. For a match of two slots at the
+    /// likely start it copies no input.
+    #[inline]
+    pub(super) fn captured_span(
+        &mut self,
+        input: &Input<'_>,
+        captures: &mut Captures,
+    ) -> Option<Span>
+        ensures span { result ≡ answer_span row_span (filled_answer captures.new (Ok tt)) }
+        ensures ordered { ForSome result (λ p. p.start ≤ p.end) }
+        ensures answer { IsAnswer self.old.choice.nfa (kind_in self.old.choice) (search_of input.now).earliest
+            (search_of input.now) captures.new.pattern captures.new.slots }
+        ensures runs { RunsByWindow (search_of input.now) self.old self.new }
+        ensures fills { FillsCaptures self.old.choice.nfa (search_of input.now) captures.old captures.new }
+        ensures holds { HoldsNoMore 0 self.old.choice.back self.new.choice.back }
+        ensures keeps { KeepsRegex self.old self.new }
+    {
+        if let Some(found) = self.quick_match(input, captures.slots().len()) {
+            fill_captures(found, captures);
+            return Some(found.span());
+        }
+        self.fill_past_quick(input, captures);
+        captures_span(captures, Ok(()))
+    }
+
+    /// Searches as [`Regex::search_captures`] does, if known cells did not lead to the match.
+    // A call of its own, so that a match at the likely start costs no large frame.
+    #[inline(never)]
+    fn fill_past_quick(&mut self, input: &Input<'_>, captures: &mut Captures)
+        ensures answer { IsAnswer self.old.choice.nfa (kind_in self.old.choice) (search_of input.now).earliest
+            (search_of input.now) captures.new.pattern captures.new.slots }
+        ensures runs { RunsByWindow (search_of input.now) self.old self.new }
+        ensures fills { FillsCaptures self.old.choice.nfa (search_of input.now) captures.old captures.new }
+        ensures holds { HoldsNoMore 0 self.old.choice.back self.new.choice.back }
+        ensures keeps { KeepsRegex self.old self.new }
+    {
         if captures.slots().len() != 2 {
             let pattern = self.search_groups(input, captures.slots_mut());
             captures.set_pattern(pattern);
             return;
         }
-        match self.match_or_part(*input, captures.slots().len()) {
+        match self.match_past_quick(*input, captures.slots().len()) {
             Ok(found) => fill_captures(found, captures),
             Err(Some(part)) => self.choice.search(&part, captures),
             Err(None) => captures.clear(),

@@ -1,5 +1,5 @@
 //! Iteration over the captures of the matches of an input.
-ghost use Rattle.std.specs.Prelude.{◌≡◌, None, Ok, Some, false, true};
+ghost use Rattle.std.specs.Prelude.{◌≡◌, ◌⊎◌, Err, None, Ok, Some, false, true};
 ghost use Rattle.nfa_search_base.specs.Lists.{HasGroups};
 ghost use Rattle.nfa_search_base.specs.Stored.{with_cache};
 ghost use Rattle.nfa_meta.specs.CapturesSteps.{captures_call};
@@ -7,7 +7,7 @@ ghost use Rattle.nfa_meta.specs.RegexState.{KeepsRegex};
 
 use crate::regex::Regex;
 use nfa_engines::error::SearchError;
-use nfa_engines::iter::captures_items::{captures_item, captures_span};
+use nfa_engines::iter::captures_items::captures_span;
 use nfa_engines::iter::{FindWith, Searcher, Steps};
 use regex_search_core::{Captures, Input, Span};
 use std::alloc::{AllocError, Global};
@@ -30,14 +30,33 @@ pub struct CapturesMatches<'r, 'h> {
 #[derive(Debug, Drop)]
 pub(super) struct CapturesFinder {
     captures: Captures,
+    // The span of the match that they hold.
+    held: Option<Span>,
 }
 
 impl Model for CapturesFinder {
-    ghost use Rattle.nfa_search_base.specs.WithCaptures.{WithCaptures};
+    ghost use Rattle.std.specs.Prelude.{◌≡◌, ◌≤◌, Ok};
+    ghost use Rattle.std.specs.Option.{ForSome};
+    ghost use Rattle.nfa_search_base.specs.IterStates.{answer_span};
+    ghost use Rattle.nfa_search_base.specs.WithCaptures.{WithCaptures, filled_answer, row_span};
 
     ghost Value = { WithCaptures (Unit {0}) };
 
     ghost view = { λ a. record { finder = tt; captures = a.captures } };
+
+    ghost invariant = { λ a. (a.held ≡ answer_span row_span (filled_answer a.captures (Ok tt)))
+        × ForSome a.held (λ p. p.start ≤ p.end) };
+}
+
+impl CapturesFinder {
+    /// Makes a finder that fills these captures.
+    #[inline]
+    fn new(captures: Captures) -> CapturesFinder
+        ensures { result ≡ record { finder = tt; captures = captures } }
+    {
+        let held = captures_span(&captures, Ok(()));
+        CapturesFinder { captures, held }
+    }
 }
 
 impl Regex {
@@ -127,11 +146,12 @@ impl Regex {
         ensures searches { CapturesBySearches (search_of input.entry) result }
         ensures keeps { CapturesGiveKept result }
     {
+        let backend = CapturesFinder::new(captures);
         CapturesMatches {
             regex: self,
             steps: Steps {
                 searcher: Searcher::new(input),
-                backend: CapturesFinder { captures },
+                backend,
                 done: false,
             },
         }
@@ -164,9 +184,7 @@ impl Regex {
         ensures to_end { IfOk result (λ all.
             RegexCapturesToEnd (search_of input.entry) (map row_of all.items) self.old self.new) }
     {
-        let finder = CapturesFinder {
-            captures: self.create_captures(alloc)?,
-        };
+        let finder = CapturesFinder::new(self.create_captures(alloc)?);
         Steps::new(input, finder).all_with(alloc, self)
     }
 
@@ -182,7 +200,7 @@ impl Regex {
             return Err(AllocError);
         };
         let input = Input::new(haystack);
-        let steps = Steps::new(input, CapturesFinder { captures });
+        let steps = Steps::new(input, CapturesFinder::new(captures));
         Ok(steps)
     }
 }
@@ -234,18 +252,38 @@ impl FindWith for CapturesFinder {
 
     #[inline]
     fn answer(&mut self, regex: &mut Regex, input: &Input<'_>) -> Result<(), SearchError> {
-        regex.search_captures(input, &mut self.captures);
+        self.held = regex.captured_span(input, &mut self.captures);
         Ok(())
     }
 
     #[inline]
     fn reply_span(&self, reply: Result<(), SearchError>) -> Option<Span> {
-        captures_span(&self.captures, reply)
+        match reply {
+            Ok(()) => self.held,
+            Err(_) => None,
+        }
     }
 
     #[inline]
     fn item(&self, reply: Result<(), SearchError>) -> Option<Result<Captures, SearchError>> {
-        captures_item(&self.captures, reply)
+        match reply {
+            Ok(()) => match self.held {
+                Some(_) => Some(copied(&self.captures)),
+                None => None,
+            },
+            Err(error) => Some(Err(error)),
+        }
+    }
+}
+
+/// Returns a copy of the captures. The only error is that it could not be allocated.
+#[inline]
+fn copied(captures: &Captures) -> Result<Captures, SearchError>
+    ensures { (result ≡ Ok captures.now) ⊎ (result ≡ Err SearchError.Memory) }
+{
+    match captures.clone() {
+        Ok(copy) => Ok(copy),
+        Err(_) => Err(SearchError::Memory),
     }
 }
 

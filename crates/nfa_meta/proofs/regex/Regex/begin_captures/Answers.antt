@@ -10,5 +10,6 @@ returns c =
     record {
       iter_state = made.iter_state ∙ ap fresh c.new-input.ensures;
       going = made.going;
-      groups = rw made.backend (made-holds c.args.self.now.choice.nfa c.in-Ok.captures c.in-Ok.ensures.made);
+      groups = rw (made.backend ∙ c.new.ensures)
+          (made-holds c.args.self.now.choice.nfa c.in-Ok.captures c.in-Ok.ensures.made);
     }

@@ -1,5 +1,6 @@
 -- The iterator gives the captures of its input, and keeps the engine.
 use Rattle.nfa_paths.proofs.Common.{refl, search_of}
+use Rattle.nfa_search_base.specs.Common.{HasGroups}
 use Rattle.nfa_meta.specs.CapturesMatches.{captures_steps}
 use Rattle.nfa_choice.proofs.CapturesLemmas.{captures-are-given, captures-stay-kept, captures-take-memory, captures-by-searches}
 use Rattle.nfa_meta.proofs.RegexLemmas.{regex_keeps}
@@ -7,12 +8,15 @@ use Rattle.nfa_meta.proofs.regex.Regex.captures_iter_with.Goals as goal
 
 pub returns-clause-given : goal.returns-clause-given
 returns-clause-given c =
-    captures-are-given regex_keeps captures_steps (search_of c.args.input) _ c.new.ensures refl c.requires
+    let groups : HasGroups c.args.self.now.choice.nfa c.new-backend.result.captures =
+    rw c.new-backend.ensures c.requires in
+    captures-are-given regex_keeps captures_steps (search_of c.args.input) _ c.new.ensures refl groups
 
 pub returns-clause-inside : goal.returns-clause-inside
 returns-clause-inside c =
-    let given =
-    captures-are-given regex_keeps captures_steps (search_of c.args.input) _ c.new.ensures refl c.requires in
+    let groups : HasGroups c.args.self.now.choice.nfa c.new-backend.result.captures =
+    rw c.new-backend.ensures c.requires in
+    let given = captures-are-given regex_keeps captures_steps (search_of c.args.input) _ c.new.ensures refl groups in
     given.inside
 
 pub returns-clause-errors : goal.returns-clause-errors

@@ -3,20 +3,7 @@ use Rattle.nfa_paths.proofs.Common.{rules, ◌≡◌, Some, arith, common_steps,
 use Rattle.nfa_search_base.proofs.AskingLemmas.{inside-of}
 use Rattle.nfa_choice.specs.ChoiceState.{kind_in}
 use Rattle.nfa_meta.proofs.MatchSlotLemmas.{plain-answer}
-use Rattle.nfa_meta.proofs.regex.Regex.match_or_part.Goals as goal
-
-pub returns-in-Some-clause-answer : goal.returns-in-Some-clause-answer
-returns-in-Some-clause-answer c =
-    let r = c.args.self.now.choice in
-    let x = search_of c.args.input in
-    let two : slot_count r.nfa.groups ≡ 2 = first_of (search rules, grind (arith, common_steps)) in
-    plain-answer r.nfa (kind_in r) x.earliest x (found_of c.in-Some.found) two c.in-Some.ensures.answer
-
-pub returns-in-Some-clause-inside : goal.returns-in-Some-clause-inside
-returns-in-Some-clause-inside c =
-    let r = c.args.self.now.choice in
-    let x = search_of c.args.input in
-    inside-of r.nfa (kind_in r) x.earliest x (Some c.in-Some.found) c.in-Some.ensures.answer
+use Rattle.nfa_meta.proofs.regex.Regex.match_past_quick.Goals as goal
 
 pub returns-clause-answer : goal.returns-clause-answer
 returns-clause-answer c =
