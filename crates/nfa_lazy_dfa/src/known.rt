@@ -356,7 +356,7 @@ pub fn run_by_byte(dfa: &DFA, cache: &Cache, input: &Input<'_>, from: Place) -> 
     ensures at { IsFoundAt dfa.now cache.now (search_of input.now) result }
     ensures low { from.at ≤ result.at }
 {
-    let earliest = input.get_earliest();
+    let is_earliest = input.get_earliest();
     let end = input.end();
     let mut at = from.at;
     let mut first = from.row * ROW_CELLS as u32;
@@ -368,7 +368,7 @@ pub fn run_by_byte(dfa: &DFA, cache: &Cache, input: &Input<'_>, from: Place) -> 
             first = cell % IDLE;
             continue;
         }
-        if earliest {
+        if is_earliest {
             break;
         }
         let Some(matched) = over_match(dfa, cache, input, at, first) else {

@@ -18,7 +18,7 @@ loop-at-preserved c =
     let x = search_of c.args.input.now in
     let cache = c.args.cache.now in
     let row = c.in-Some.matched in
-    let late : x.earliest ≡ false = sym c.get_earliest-earliest.ensures ∙ c.if-earliest.false in
+    let late : x.earliest ≡ false = sym c.get_earliest-is_earliest.ensures ∙ c.if-is_earliest.false in
     let here = c.in-Some.ensures.at late in
     let t = stance_of c.index.result.now in
     let known : IsRowOf cache (row / 256) t =
@@ -33,7 +33,7 @@ loop-at-preserved c =
 
 pub index-requires : goal.index-requires
 index-requires c =
-    let late = sym c.get_earliest-earliest.ensures ∙ c.if-earliest.false in
+    let late = sym c.get_earliest-is_earliest.ensures ∙ c.if-is_earliest.false in
     let here = (c.in-Some.ensures.at late).at in
     row-inside c.args.cache.now (c.in-Some.matched / 256) here.stance here.is
 
