@@ -13,7 +13,7 @@ ghost use Rattle.nfa_lazy_dfa.specs.Stances.{Stance};
 use crate::cache::{Cache, DEAD, IDLE, MATCHED, ROW_CELLS, UNKNOWN};
 use crate::dfa::DFA;
 use crate::fill::row_of;
-use crate::known::{pass, pass_matches, read_cell, run};
+use crate::known::{pass, pass_matches, read_cell, run, run_by_byte};
 use crate::scan::{Place, half_at};
 use regex_search_core::{HalfMatch, Input};
 
@@ -226,6 +226,29 @@ pub fn run_on(dfa: &DFA, cache: &Cache, input: &Input<'_>, from: Place) -> (Plac
     ensures low { from.at ≤ result.0.at }
 {
     let place = run(dfa, cache, input, from);
+    over_end(dfa, cache, input, place)
+}
+
+/// Goes on as [`run_on`], one byte at a time.
+#[inline(always)]
+pub fn run_on_by_byte(dfa: &DFA, cache: &Cache, input: &Input<'_>, from: Place) -> (Place, bool)
+    requires own { IsFor cache.now dfa.now }
+    requires at { IsFoundAt dfa.now cache.now (search_of input.now) from }
+    ensures next { IsNextPlace dfa.now cache.now (search_of input.now) result.0 result.1 }
+    ensures low { from.at ≤ result.0.at }
+{
+    let place = run_by_byte(dfa, cache, input, from);
+    over_end(dfa, cache, input, place)
+}
+
+/// Goes on over the next cell, if it ends the scan. Returns whether it does.
+#[inline(always)]
+fn over_end(dfa: &DFA, cache: &Cache, input: &Input<'_>, place: Place) -> (Place, bool)
+    requires own { IsFor cache.now dfa.now }
+    requires at { IsFoundAt dfa.now cache.now (search_of input.now) place }
+    ensures next { IsNextPlace dfa.now cache.now (search_of input.now) result.0 result.1 }
+    ensures low { place.at ≤ result.0.at }
+{
     let first = place.row * ROW_CELLS as u32;
     let cell = next_cell(dfa, cache, input, place.at, first);
     let ahead = Ahead {

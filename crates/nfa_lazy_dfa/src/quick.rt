@@ -11,7 +11,7 @@ ghost use Rattle.nfa_lazy_dfa.specs.Rows.{IsFor};
 
 use crate::cache::Cache;
 use crate::dfa::DFA;
-use crate::direct::{direct, run_on};
+use crate::direct::{direct, run_on_by_byte};
 use crate::ends::found_last;
 use crate::scan::{Place, may_start_later, seen_before};
 use nfa_determinize::laws;
@@ -117,7 +117,7 @@ fn known_rest(dfa: &DFA, cache: &Cache, input: Input<'_>, from: Place) -> Option
     ensures { let x = search_of input.entry in IfSome result (λ half.
         option_map half_found_of half ≡ scan_half dfa.now.nfa x dfa.now.kind x.earliest) }
 {
-    let (place, over) = run_on(dfa, cache, &input, from);
+    let (place, over) = run_on_by_byte(dfa, cache, &input, from);
     if over {
         return Some(place.found);
     }

@@ -1,5 +1,6 @@
 -- The lemmas on occurrences of bytes, on the bytes that paths read first, on bytes that each path reads, and on
 -- searches for them.
+mod ByteLemmas
 pub mod FewLemmas
 pub mod LevelLemmas
 pub mod OccurrenceLemmas

@@ -1,8 +1,9 @@
 //! A search for bytes in a part of a haystack.
 ghost use Rattle.std.specs.Prelude.{◌≤◌, IfNone, IfSome, length};
+ghost use Rattle.memchr.specs.Find.{FindsNeedle};
 ghost use Rattle.nfa_prefix.specs.Prefixes.{IsFirstOccurrence, OccursNowhere};
 
-use memchr::memmem;
+use memchr::{memchr, memmem};
 
 /// Returns the first position from `from` on at which all bytes of the prefix are in the haystack, before `end`.
 ///
@@ -21,6 +22,16 @@ pub fn find_prefix(haystack: &[u8], from: usize, end: usize, prefix: &[u8]) -> O
     if from > end {
         return None;
     }
-    let at = memmem::find(&haystack[from..end], prefix)?;
+    let at = find_in(&haystack[from..end], prefix)?;
     Some(from + at)
+}
+
+/// Returns the first position at which all bytes of the prefix are in the part. One byte is found faster by itself.
+fn find_in(part: &[u8], prefix: &[u8]) -> Option<usize>
+    ensures { FindsNeedle part.now prefix.now 0 result }
+{
+    if prefix.len() == 1 {
+        return memchr(prefix[0], part);
+    }
+    memmem::find(part, prefix)
 }

@@ -12,7 +12,7 @@ use nfa_engines::laws::{bytes_may_be_skipped, first_start_answers};
 use regex_search_core::{Anchored, Input, Match};
 
 /// The number of bytes that a search passes over to its first start, before it leaves the rest to a window.
-const REACH: usize = 8;
+const REACH: usize = 64;
 
 impl Regex {
     /// Whether a match of the search may start anywhere in its span, and the first of all paths counts.

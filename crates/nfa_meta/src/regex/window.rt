@@ -27,6 +27,9 @@ use regex_search_core::{Input, Match, Span};
 /// The number of starts in a window that the lazy DFA tries before the choice searches the window.
 const TRIES: usize = 4;
 
+/// How many matches in a row that are not at the first start leave it the likely one.
+const PATIENCE: u8 = 2;
+
 /// No window of the lazy DFA has the answer of a search.
 #[derive(Clone, Copy, Debug)]
 pub(super) struct NoWindow;
@@ -161,6 +164,7 @@ impl Regex {
         ensures keeps { KeepsRegex self.old self.new }
     {
         if let Some(found) = self.quick(input) {
+            self.misses = 0;
             return Some(found);
         }
         self.find_past_first(input)
@@ -182,7 +186,13 @@ impl Regex {
             return found;
         }
         let found = self.find_by_window(*input);
-        self.matched_at_first = self.is_at_first(input, found);
+        let missed = !self.is_at_first(input, found);
+        self.misses = if missed {
+            self.misses.saturating_add(1)
+        } else {
+            PATIENCE - 1
+        };
+        self.matched_at_first = self.misses <= PATIENCE;
         found
     }
 

@@ -16,7 +16,7 @@ returns-in_err-at-clause-nowhere c =
     let onward : c.args.from ≤ c.args.end = omega arith in
     if-none c.from_residual.result
     (part-nowhere haystack bytes c.args.from c.args.end within onward
-    (subst (FindsNeedle (slice_range haystack c.args.from c.args.end) bytes 0) c.in_err-at.was c.find.ensures))
+    (subst (FindsNeedle (slice_range haystack c.args.from c.args.end) bytes 0) c.in_err-at.was c.find_in.ensures))
 
 pub returns-clause-first : goal.returns-clause-first
 returns-clause-first c =
@@ -25,4 +25,4 @@ returns-clause-first c =
     let within : c.args.end ≤ length haystack = omega arith in
     let onward : c.args.from ≤ c.args.end = omega arith in
     part-first haystack bytes c.args.from c.args.end within onward c.in_ok-at.at
-    (subst (FindsNeedle (slice_range haystack c.args.from c.args.end) bytes 0) c.in_ok-at.was c.find.ensures)
+    (subst (FindsNeedle (slice_range haystack c.args.from c.args.end) bytes 0) c.in_ok-at.was c.find_in.ensures)
