@@ -41,7 +41,7 @@ position-below text at within =
     let below = below-all (take at text) 0 first_position (record { line = omega arith; column = omega arith }) in
     record { line = omega (arith, long, below.line); column = omega (arith, long, below.column) }
 
-first-there : (text : List ℕ) → first_position ≡ position_at text 0
+pub first-there : (text : List ℕ) → first_position ≡ position_at text 0
 unfolding position_past_all
 first-there text = refl
 

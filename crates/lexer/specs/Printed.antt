@@ -1,5 +1,5 @@
 -- What is printed for the tokens of a text.
-use Rattle.std.specs.Prelude.{ℕ, ◌+◌, ◌≡◌, ◌≤◌, Bool, true, false, List, [], ◌++◌, Option, None, Some, codes, flat_map, length, option_map, slice_get, slice_range, unwrap_or, if◌then◌else◌}
+use Rattle.std.specs.Prelude.{ℕ, ◌+◌, ◌≡◌, ◌≤◌, Bool, List, [], ◌++◌, Option, None, Some, codes, flat_map, length, option_map, slice_get, slice_range, unwrap_or, if◌then◌else◌}
 use Rattle.std.specs.Borrow.{Bor}
 use Rattle.std.specs.Fmt.{decimal}
 use Rattle.std.specs.Io.KnownBytes.{Appends}
@@ -12,6 +12,8 @@ use Rattle.regex_search_core.specs.declared.search.Span.{Span}
 use Rattle.lexer.specs.Lexed.{TextPiece, is_token, lexed, piece_there, pieces_from, recovered, stuck_in}
 use Rattle.lexer.specs.Positions.{position_at}
 use Rattle.lexer.specs.declared.position.Position.{Position}
+use Rattle.lexer.specs.declared.report.Outcome.{Outcome}
+use Rattle.lexer.specs.declared.report.Outcome.TheVariants.{Errors, Stuck, Whole}
 use Rattle.lexer.specs.declared.report.Style.{Style}
 use Rattle.lexer.specs.declared.rules.Rule.{Rule}
 
@@ -98,25 +100,28 @@ piece_line style rules text piece =
 abbrev pub piece_lines : Style → List Rule → List ℕ → List TextPiece → List ℕ
 piece_lines style rules text pieces = flat_map (piece_line style rules text) pieces
 
--- the line of this place, where no token starts, or the same as a JSON object
-abbrev pub stuck_at : Bool → ℕ → Option Position → List ℕ
-stuck_at false at position = codes "no token at " ++ decimal at ++ (shown_position position ++ codes "\n")
-stuck_at true at position = codes "{\"no_token_at\":" ++ decimal at ++ (position_members position ++ codes "}\n")
-
--- the line of the place where no token starts, or nothing
-abbrev pub stuck_line : Style → List ℕ → Option ℕ → List ℕ
-stuck_line style text None = []
-stuck_line style text (Some at) = stuck_at style.json at (position_if style.positions text at)
-
 -- what is printed of the tokens of a text by these rules, which mean `res`
 abbrev pub printed_tokens : Style → List Rule → List Re → List ℕ → List ℕ
-printed_tokens style rules res text =
-    piece_lines style rules text (lexed res text) ++ stuck_line style text (stuck_in res text)
+printed_tokens style rules res text = piece_lines style rules text (lexed style.prefer res text)
+
+-- what is printed of the pieces of a text
+abbrev pub printed_pieces : Style → List Rule → List Re → List ℕ → List ℕ
+printed_pieces style rules res text = piece_lines style rules text (recovered style.prefer res text)
 
 -- what is printed of a text: its pieces if the lexer goes on after errors, and otherwise its tokens
 abbrev pub printed_text : Style → List Rule → List Re → List ℕ → List ℕ
 printed_text style rules res text =
-    if style.recover then piece_lines style rules text (recovered res text) else printed_tokens style rules res text
+    if style.recover then printed_pieces style rules res text else printed_tokens style rules res text
+
+-- The outcome if this is the first place at which no token starts: the tokens are the whole text if there is none. If
+-- the lexer goes on, the text has an error, and otherwise the lexer is stuck at that place.
+abbrev pub outcome_at : Bool → List ℕ → Option ℕ → Outcome
+outcome_at recover text None = Whole
+outcome_at recover text (Some at) = if recover then Errors else Stuck at (position_at text at)
+
+-- the outcome of a text in a style
+abbrev pub outcome_of : Style → List Re → List ℕ → Outcome
+outcome_of style res text = outcome_at style.recover text (stuck_in style.prefer res text)
 
 -- How far a text was printed: the lines of its pieces up to this place were written, all of tokens if the text is
 -- `whole` so far. At most `left` pieces are from there on, and with them they are the pieces of the text.
@@ -125,6 +130,7 @@ pub record HasPrinted (res : List Re) (text : List ℕ) (style : Style) (rules :
   pub pieces : List TextPiece
   pub left : ℕ
   pub enough : length text ≤ left + at
-  pub goes_on : recovered res text ≡ pieces ++ pieces_from (piece_there res text) (length text) left at
+  pub goes_on : recovered style.prefer res text
+      ≡ pieces ++ pieces_from (piece_there style.prefer res text) (length text) left at
   pub written : Appends out-before out (piece_lines style rules text pieces)
   pub whole_is : whole ≡ list_all is_token pieces

@@ -1,5 +1,5 @@
 -- How rules are written, one in a line, the regex of their patterns, and why rules cannot be compiled.
-use Rattle.std.specs.Prelude.{ℕ, ◌+◌, ◌<◌, ◌≡◌, ◌≢◌, ◌-◌, ◌↔◌, ◌||◌, ◌++◌, Bool, false, not, IsTrue, List, [], chars, codes, drop, length, map, slice_index, slice_index_or, ◌^◌, Some, true, ⊤, min, slice_get, take, ◌==◌}
+use Rattle.std.specs.Prelude.{ℕ, ◌+◌, ◌<◌, ◌≡◌, ◌≢◌, ◌-◌, ◌↔◌, ◌||◌, ◌++◌, Bool, false, not, IsTrue, List, [], chars, codes, drop, length, map, slice_index, slice_index_or, ◌^◌, Some, ⊤, min, slice_get, take, ◌==◌}
 use Rattle.nfa_compiler.specs.Common.{decimal, AllZip, after_first, before_first, enumerate_from, filter, position_or_len, trim, trim_start, Re, AreMeant, compile_error_text, IsFirstTooBigOf, IsRejection, byte_syntax}
 use Rattle.nfa_compiler.specs.declared.error.CompileError.TheVariants.{Memory, Syntax, TooBig}
 use Rattle.lexer.specs.declared.rules.Rule.{Rule}
@@ -117,11 +117,6 @@ IsCompileMistake rules (TooLarge line limit) = IsTooLarge rules line limit
 IsCompileMistake rules (Compile (Syntax e)) = ⊥
 IsCompileMistake rules (Compile (TooBig pattern limit)) = ⊥
 IsCompileMistake rules (Compile _) = ⊤
-
--- the reason is that allocation failed
-abbrev pub is_memory : RulesError → Bool
-is_memory (Compile Memory) = true
-is_memory _ = false
 
 -- the text of an error
 abbrev pub rules_error_text : RulesError → List ℕ

@@ -1,4 +1,5 @@
 //! What the arguments of the command line ask for.
+use crate::lexer::Prefer;
 use crate::report::Style;
 use option_values::parted::part_words;
 use option_values::words::{NotText, Word, texts};
@@ -6,47 +7,54 @@ use std::alloc::{AllocError, Global};
 use std::fmt;
 
 /// The line that says how the program is called.
-pub const USAGE: &str =
-    "usage: lexer [--json] [--positions] [--recover] [--skip NAME].. [RULES] < TEXT";
+pub const USAGE: &str = "usage: lexer [OPTIONS] [FILE]";
+
+/// What `--version` prints.
+pub const VERSION: &str = "lexer 0.1.0";
 
 /// The options that have a value, which is the next word.
-const VALUED: &[&str] = &["--skip"];
+const VALUED: &[&str] = &["--rules", "-r", "--skip"];
 
 /// What `--help` prints below it.
 pub const HELP: &str = "
-Prints each token of the text in a line: the name of its rule, its span in bytes, and its text.
-RULES is a file with a rule in each line: NAME = PATTERN. Empty lines, and lines that start with #, are left out.
-Options stand before RULES or after it. After -- no word is one: write it before the name of a file that begins with a
-hyphen.
-Without RULES the rules are those of a language like C: identifier, number, string, space and operator.
-The first rule that matches is taken. A token of the rule `space` is printed without its text.
+Prints each token of FILE in a line: the name of its rule, its span in bytes, and its text. Without FILE, or for -, it
+reads standard input. Options stand before FILE or after it. After -- no word is one.
+The rules are those of a language like C: identifier, number, string, space and operator. A token of the rule `space`
+is printed without its text.
 
 Options:
---json       prints each token as a JSON object, with its text.
---positions  prints LINE:COLUMN of each token after its span, both from 1. Columns count characters: all bytes but those
-             that continue a character of UTF-8.
---recover    goes on after text of which no rule takes a byte: up to the next place at which a token starts, or to the
-             end, it is a token of the name `error`, among the others.
---skip NAME  prints no tokens of the rule of this name. It may be given several times.
---help       prints this, and nothing else.
+-r, --rules RULES  takes the rules from a file, one in a line: NAME = PATTERN. Empty lines, and lines that start with #,
+                   are left out.
+--longest          takes the rule with the longest match, and the first of those that are as long. Otherwise the first
+                   rule that matches is taken. Each rule matches as long as its pattern prefers: a|ab prefers a.
+--json             prints each token as a JSON object, with its text.
+--positions        prints LINE:COLUMN of each token after its span, both from 1. Columns count characters: all bytes but
+                   those that continue a character of UTF-8.
+--recover          goes on after text of which no rule takes a byte: up to the next place at which a token starts, or to
+                   the end, it is a token of the name `error`, among the others.
+--skip NAME        prints no tokens of the rule of this name. It may be given several times.
+-h, --help         prints this, and nothing else.
+--version          prints the name and the version of the program.
 
-Status: 0 if the tokens of rules are the whole text, 1 if no token starts at some place or the text cannot be read or a
-token written, 2 if the arguments or the rules are wrong. If the output is a pipe that is closed, the program ends with
-status 0.
+Status: 0 if the tokens of rules are the whole text, 1 if no token starts at some place, which standard error names, 2 if
+the arguments or the rules are wrong, the text cannot be read, a token cannot be written or there is no memory. If
+nobody reads the output any more, the program ends silently with status 141.
 
 Examples:
-lexer --skip space < main.c
+lexer --skip space main.c
     prints the words, numbers, strings and operators of a program.
-lexer --recover --positions < main.c | grep '^error'
+lexer --recover --positions main.c | grep '^error'
     prints where the program has text that no rule takes.
-printf 'word = [a-z]+\\nspace = \\s+\\n' > rules; echo 'to be' | lexer --json rules
-    prints two words and the white space after each as objects.";
+printf 'if = if\\nword = [a-z]+\\nspace = \\s+\\n' > rules; echo 'if iffy' | lexer --longest --rules rules
+    prints an if, a word, and the white space after each.";
 
 /// What the arguments ask for.
 #[derive(Drop)]
 pub struct Arguments<'w> {
     /// The name of the file of the rules, if one is given.
     pub rules: Option<&'w str>,
+    /// The name of the file of the text, if it is not standard input.
+    pub file: Option<&'w str>,
     /// The names of the rules whose tokens are not printed.
     pub skip: Vec<&'w str>,
     /// Whether tokens are printed as JSON objects.
@@ -55,6 +63,8 @@ pub struct Arguments<'w> {
     pub recover: bool,
     /// Whether the line and the column of each token are printed.
     pub positions: bool,
+    /// Which rule gives a token.
+    pub prefer: Prefer,
 }
 
 impl<'w> Arguments<'w> {
@@ -65,6 +75,7 @@ impl<'w> Arguments<'w> {
             json: self.json,
             recover: self.recover,
             positions: self.positions,
+            prefer: self.prefer,
         }
     }
 }
@@ -74,6 +85,8 @@ impl<'w> Arguments<'w> {
 pub enum Asked<'w> {
     /// Print the help.
     Help,
+    /// Print the version.
+    Version,
     /// Print tokens.
     Tokens(Arguments<'w>),
 }
@@ -85,8 +98,8 @@ pub enum Misuse<'w> {
     NoOption(&'w str),
     /// This word is not UTF-8.
     NotText(NotText<'w>),
-    /// The last word is `--skip`.
-    NoName,
+    /// The last word is this option, which needs a value.
+    NoValue(&'static str),
     /// There is a name of a file, and this word.
     TwoFiles(&'w str),
 }
@@ -99,8 +112,8 @@ impl fmt::Display for Misuse<'_> {
                 "there is no option {word}; after -- no word is one"
             ),
             Misuse::NotText(error) => fmt::Display::fmt(error, f),
-            Misuse::NoName => f.write_str("--skip needs the name of a rule"),
-            Misuse::TwoFiles(word) => write!(f, "RULES is one file, and {word} is one word more"),
+            Misuse::NoValue(what) => write!(f, "{what}"),
+            Misuse::TwoFiles(word) => write!(f, "FILE is one file, and {word} is one word more"),
         }
     }
 }
@@ -113,30 +126,48 @@ pub fn parse<'w>(
     let parted = part_words(alloc, VALUED, words)?;
     match texts(alloc, &parted.options)? {
         Ok(options) => match file_of(&parted.operands) {
-            Ok(rules) => with_options(alloc, rules, &options),
+            Ok(file) => with_options(alloc, file, &options),
             Err(misuse) => Ok(Err(misuse)),
         },
         Err(error) => Ok(Err(Misuse::NotText(error))),
     }
 }
 
+/// What the words so far ask for, besides the arguments, and what the next one is.
+#[derive(Clone, Copy)]
+struct Reading {
+    help: bool,
+    version: bool,
+    next: Next,
+}
+
+/// What the next word is.
+#[derive(Clone, Copy, PartialEq, Eq)]
+enum Next {
+    Option,
+    Name,
+    Rules,
+}
+
 /// Returns what these options ask for.
 fn with_options<'w>(
     alloc: Global,
-    rules: Option<&'w str>,
+    file: Option<&'w str>,
     options: &[&'w str],
 ) -> Result<Result<Asked<'w>, Misuse<'w>>, AllocError> {
     let mut arguments = Arguments {
-        rules,
+        rules: None,
+        file,
         skip: Vec::new(alloc),
         json: false,
         recover: false,
         positions: false,
+        prefer: Prefer::First,
     };
-    let mut is_help = false;
-    match read_options(&mut arguments, &mut is_help, options)? {
-        Ok(()) if is_help => Ok(Ok(Asked::Help)),
-        Ok(()) => Ok(Ok(Asked::Tokens(arguments))),
+    match read_options(&mut arguments, options)? {
+        Ok(reading) if reading.help => Ok(Ok(Asked::Help)),
+        Ok(reading) if reading.version => Ok(Ok(Asked::Version)),
+        Ok(_) => Ok(Ok(Asked::Tokens(arguments))),
         Err(misuse) => Ok(Err(misuse)),
     }
 }
@@ -144,51 +175,69 @@ fn with_options<'w>(
 /// Reads the options with their values.
 fn read_options<'w>(
     arguments: &mut Arguments<'w>,
-    is_help: &mut bool,
     options: &[&'w str],
-) -> Result<Result<(), Misuse<'w>>, AllocError> {
-    let mut is_name = false;
+) -> Result<Result<Reading, Misuse<'w>>, AllocError> {
+    let mut reading = Reading {
+        help: false,
+        version: false,
+        next: Next::Option,
+    };
     for option in options {
-        if is_name {
-            arguments.skip.push(*option)?;
-            is_name = false;
-            continue;
-        }
-        match read_option(arguments, is_help, option) {
-            Ok(takes_name) => is_name = takes_name,
-            Err(misuse) => return Ok(Err(misuse)),
+        match reading.next {
+            Next::Option => match read_option(arguments, reading, option) {
+                Ok(read) => reading = read,
+                Err(misuse) => return Ok(Err(misuse)),
+            },
+            Next::Name => {
+                arguments.skip.push(*option)?;
+                reading.next = Next::Option;
+            }
+            Next::Rules => {
+                arguments.rules = Some(*option);
+                reading.next = Next::Option;
+            }
         }
     }
-    if is_name {
-        return Ok(Err(Misuse::NoName));
-    }
-    Ok(Ok(()))
+    Ok(match reading.next {
+        Next::Option => Ok(reading),
+        Next::Name => Err(Misuse::NoValue("--skip needs the name of a rule")),
+        Next::Rules => Err(Misuse::NoValue("--rules needs the name of a file")),
+    })
 }
 
-/// Reads an option, and returns whether the next word is its value.
+/// Reads an option.
 fn read_option<'w>(
     arguments: &mut Arguments<'w>,
-    is_help: &mut bool,
+    reading: Reading,
     option: &'w str,
-) -> Result<bool, Misuse<'w>> {
+) -> Result<Reading, Misuse<'w>> {
+    let mut reading = reading;
     match option {
-        "--help" => *is_help = true,
+        "-h" | "--help" => reading.help = true,
+        "--version" => reading.version = true,
         "--json" => arguments.json = true,
         "--recover" => arguments.recover = true,
         "--positions" => arguments.positions = true,
-        "--skip" => return Ok(true),
+        "--longest" => arguments.prefer = Prefer::Longest,
+        "--skip" => reading.next = Next::Name,
+        "-r" | "--rules" => reading.next = Next::Rules,
         other => return Err(Misuse::NoOption(other)),
     }
-    Ok(false)
+    Ok(reading)
 }
 
-/// Returns the name of the file of the rules, if there is one.
+/// Returns the name of the file of the text, if it is not standard input.
 fn file_of<'w>(words: &[Word<'w>]) -> Result<Option<&'w str>, Misuse<'w>> {
     match words {
         [] => Ok(None),
-        [name] => Ok(Some(name.text()?)),
+        [name] => Ok(named_file(name.text()?)),
         [_, word, ..] => Err(Misuse::TwoFiles(word.text()?)),
     }
+}
+
+/// Returns the name of a file; none for `-`, which is standard input.
+fn named_file<'w>(name: &'w str) -> Option<&'w str> {
+    if name == "-" { None } else { Some(name) }
 }
 
 impl<'w> From<NotText<'w>> for Misuse<'w> {

@@ -1,4 +1,4 @@
-//! Reads a source text from standard input, and prints each of its tokens in a line.
+//! Reads a source text, and prints each of its tokens in a line.
 #![tactic(auto)]
 
 ghost use Rattle.std.specs.Prelude.{◌≡◌};
@@ -12,35 +12,32 @@ mod report;
 mod rules;
 mod shown;
 
-use crate::command::{Arguments, Asked, HELP, USAGE, parse};
+use crate::command::{Arguments, Asked, HELP, USAGE, VERSION, parse};
 use crate::lexer::Lexer;
 use crate::names::unknown_name;
-use crate::report::Style;
-use crate::rules::{Rule, RulesError};
+use crate::position::Position;
+use crate::report::{Outcome, Style};
+use crate::rules::Rule;
 use anyhow::Result;
 use option_values::words::{arguments, words};
 use std::fmt::Display;
-use std::io::{BufWriter, ErrorKind};
+use std::io::{BufWriter, ErrorKind, Read};
 use std::process::ExitCode;
 use std::{fs, io};
 
 /// The text has a place where no token starts.
 const STUCK: u8 = 1;
 
-/// The input, the output or memory failed.
-const FAILED: u8 = 1;
+/// The arguments or the rules are wrong, or the input, the output or memory failed.
+const FAILED: u8 = 2;
 
-/// The arguments or the rules are wrong.
-const MISUSED: u8 = 2;
+/// Nobody reads the output any more: the status that a shell has of a program which the signal for that ends.
+const CLOSED: u8 = 128 + 13;
 
 fn main(rt: HostRuntime) -> ExitCode {
     match answer(&rt) {
         Ok(code) => code,
-        Err(error) => {
-            // The status says so even if the line cannot be written.
-            let _ = eprintln!(rt; "lexer: {error}");
-            ExitCode::from(FAILED)
-        }
+        Err(error) => failed(&rt, error),
     }
 }
 
@@ -48,75 +45,109 @@ fn answer(rt: &HostRuntime) -> Result<ExitCode> {
     let arguments = arguments(rt)?;
     let words = words(rt.alloc(), &arguments)?;
     match parse(rt.alloc(), &words)? {
-        Ok(Asked::Help) => help(rt),
+        Ok(Asked::Help) => said(rt, format_args!("{USAGE}\n{HELP}")),
+        Ok(Asked::Version) => said(rt, VERSION),
         Ok(Asked::Tokens(arguments)) => run_file(rt, &arguments),
         Err(misuse) => {
-            let said = format_args!("lexer: {misuse}\n{USAGE}\nlexer --help says more.");
-            Ok(misused(rt, said))
+            let said = format_args!("{misuse}\n{USAGE}\nlexer --help says more.");
+            Ok(failed(rt, said))
         }
     }
 }
 
-fn help(rt: &HostRuntime) -> Result<ExitCode> {
-    match println!(rt; "{USAGE}\n{HELP}") {
-        Err(error) if error.kind() != ErrorKind::BrokenPipe => Err(error.into()),
-        _ => Ok(ExitCode::SUCCESS),
+// Prints what the arguments ask for, if it is no tokens.
+fn said<T: Display + Drop>(rt: &HostRuntime, text: T) -> Result<ExitCode> {
+    match println!(rt; "{text}") {
+        Ok(()) => Ok(ExitCode::SUCCESS),
+        Err(error) => unwritten(error),
     }
+}
+
+// Returns the status after this error of the output.
+fn unwritten(error: io::Error) -> Result<ExitCode> {
+    if error.kind() == ErrorKind::BrokenPipe {
+        return Ok(ExitCode::from(CLOSED));
+    }
+    Err(error.into())
 }
 
 // Takes the rules from the file that the arguments name, if they name one.
 fn run_file(rt: &HostRuntime, arguments: &Arguments<'_>) -> Result<ExitCode> {
     let Some(name) = arguments.rules else {
-        return run(rt, rules::DEFAULT, arguments.style());
+        return run(rt, rules::DEFAULT, arguments);
     };
     match fs::read_to_string(rt, name) {
-        Ok(text) => run(rt, &text, arguments.style()),
-        Err(error) => Ok(misused(rt, format_args!("cannot read the rules in {name}: {error}"))),
+        Ok(text) => run(rt, &text, arguments),
+        Err(error) => Ok(failed(rt, format_args!("cannot read the rules in {name}: {error}"))),
     }
 }
 
-fn run(rt: &HostRuntime, text: &str, style: Style<'_>) -> Result<ExitCode> {
+fn run(rt: &HostRuntime, text: &str, arguments: &Arguments<'_>) -> Result<ExitCode> {
     let rules = match rules::parse(rt.alloc(), text) {
         Ok(rules) => rules,
-        Err(error) => return refused(rt, error),
+        Err(error) => return Ok(failed(rt, error)),
     };
-    if let Some(name) = unknown_name(style.skip, &rules) {
-        return Ok(misused(rt, format_args!("no rule has the name {name}")));
+    if let Some(name) = unknown_name(&arguments.skip, &rules) {
+        return Ok(failed(rt, format_args!("no rule has the name {name}")));
     }
     match Lexer::new(rt.alloc(), &rules) {
-        Ok(mut lexer) => print_tokens(rt, &mut lexer, &rules, style),
-        Err(error) => refused(rt, error),
+        Ok(mut lexer) => print_input(rt, &mut lexer, &rules, arguments),
+        Err(error) => Ok(failed(rt, error)),
     }
 }
 
-fn print_tokens(
+// Opens the input that the arguments name.
+fn print_input(
+    rt: &HostRuntime,
+    lexer: &mut Lexer<'_>,
+    rules: &[Rule<'_>],
+    arguments: &Arguments<'_>,
+) -> Result<ExitCode>
+    requires { lexer.old ≡ rule_patterns rules.now }
+{
+    let Some(name) = arguments.file else {
+        return print_tokens(rt, lexer, rules, arguments.style(), rt.reader());
+    };
+    match fs::open(rt, name) {
+        Ok(file) => print_tokens(rt, lexer, rules, arguments.style(), file),
+        Err(error) => Ok(failed(rt, format_args!("{name}: {error}"))),
+    }
+}
+
+fn print_tokens<R: Read + Drop>(
     rt: &HostRuntime,
     lexer: &mut Lexer<'_>,
     rules: &[Rule<'_>],
     style: Style<'_>,
+    input: R,
 ) -> Result<ExitCode>
     requires { lexer.old ≡ rule_patterns rules.now }
 {
     let mut out = BufWriter::new(rt.alloc(), io::writer(rt))?;
-    match report::run(rt.alloc(), lexer, rules, style, rt.reader(), &mut out) {
-        Ok(true) => Ok(ExitCode::SUCCESS),
-        Ok(false) => Ok(ExitCode::from(STUCK)),
-        // The reader of the pipe has what it wants.
-        Err(error) if error.kind() == ErrorKind::BrokenPipe => Ok(ExitCode::SUCCESS),
-        Err(error) => Err(error.into()),
+    match report::run(rt.alloc(), lexer, rules, style, input, &mut out) {
+        Ok(outcome) => Ok(status(rt, outcome)),
+        Err(error) => unwritten(error),
     }
 }
 
-// Rules that are wrong are a misuse, and memory that was refused is not.
-fn refused(rt: &HostRuntime, error: RulesError) -> Result<ExitCode> {
-    if error.is_memory() {
-        return Err(error.into());
+// Returns the status, and says where the lexer is stuck.
+fn status(rt: &HostRuntime, outcome: Outcome) -> ExitCode {
+    match outcome {
+        Outcome::Whole => ExitCode::SUCCESS,
+        Outcome::Errors => ExitCode::from(STUCK),
+        Outcome::Stuck(at, Position { line, column }) => {
+            let place = format_args!("no token at {at}, line {line}, column {column}");
+            ended(rt, STUCK, place)
+        }
     }
-    Ok(misused(rt, error))
 }
 
-// The status says so even if the line cannot be written.
-fn misused<T: Display + Drop>(rt: &HostRuntime, why: T) -> ExitCode {
-    let _ = eprintln!(rt; "{why}");
-    ExitCode::from(MISUSED)
+fn failed<T: Display + Drop>(rt: &HostRuntime, why: T) -> ExitCode {
+    ended(rt, FAILED, why)
+}
+
+// Says why, and returns the status, which says so even if the line cannot be written.
+fn ended<T: Display + Drop>(rt: &HostRuntime, status: u8, why: T) -> ExitCode {
+    let _ = eprintln!(rt; "lexer: {why}");
+    ExitCode::from(status)
 }

@@ -61,17 +61,6 @@ pub enum RulesError {
     Compile(CompileError),
 }
 
-impl RulesError {
-    ghost use Rattle.lexer.specs.Rules.{is_memory};
-
-    /// Returns whether the reason is that allocation failed, and not that the rules are wrong.
-    pub fn is_memory(&self) -> bool
-        ensures { result ≡ is_memory self.now }
-    {
-        matches!(self, RulesError::Compile(CompileError::Memory))
-    }
-}
-
 impl fmt::Display for RulesError {
     ghost use Rattle.std.specs.Prelude.{Some};
     ghost use Rattle.lexer.specs.Rules.{rules_error_text};

@@ -1,13 +1,13 @@
-//! The line of a token, of a stretch at which no token starts, and of the place where the lexer is stuck.
-ghost use Rattle.std.specs.Prelude.{◌≡◌, ◌≤◌, ◌++◌, IfOk, OnOk, codes, if◌then◌else◌, false, length, option_map};
-ghost use Rattle.std.specs.Prelude.{slice_get, slice_range, string_bytes, true};
+//! The line of a token, and of a stretch at which no token starts.
+ghost use Rattle.std.specs.Prelude.{◌≡◌, ◌≤◌, ◌++◌, IfOk, OnOk, codes, if◌then◌else◌, length, option_map};
+ghost use Rattle.std.specs.Prelude.{slice_get, slice_range, string_bytes};
 ghost use Rattle.std.specs.Fmt.{decimal};
 ghost use Rattle.std.specs.Io.KnownBytes.{Appends};
 ghost use Rattle.std.specs.Str.Lossy.{utf8_lossy};
 ghost use Rattle.lexer.specs.Positions.{first_position};
 ghost use Rattle.lexer.specs.Printed.{error_line, kind_line, named_line, object_line, pattern_line, position_members};
 ghost use Rattle.lexer.specs.Printed.{rule_line, shown_place, shown_position, shown_span, shown_text};
-ghost use Rattle.lexer.specs.Printed.{shown_unless_skipped, stuck_at};
+ghost use Rattle.lexer.specs.Printed.{shown_unless_skipped};
 ghost use Rattle.lexer.specs.Lexed.{piece_found};
 ghost use Rattle.json.specs.Print.{quoted};
 ghost use Rattle.regex_search_core.specs.PatternSets.{number_of};
@@ -59,45 +59,6 @@ pub fn shown_at<'t>(text: &'t [u8], span: Span, position: Option<Position>) -> S
         position,
         text: &text[span.start..span.end],
     }
-}
-
-/// Writes that no token starts at this offset, and its position if it is given.
-pub fn write_stuck<W: Write>(
-    out: &mut W,
-    json: bool,
-    at: usize,
-    position: Option<Position>,
-) -> io::Result<()>
-    ensures { OnOk result (Appends (W.contents out.old) (W.contents out.new) (stuck_at json at position)) }
-{
-    if json {
-        return write_stuck_object(out, at, position);
-    }
-    write_stuck_line(out, at, position)
-}
-
-#[tactic(auto, using(crate::proofs::PrintedLemmas::writes))]
-fn write_stuck_object<W: Write>(
-    out: &mut W,
-    at: usize,
-    position: Option<Position>,
-) -> io::Result<()>
-    ensures { OnOk result (Appends (W.contents out.old) (W.contents out.new) (stuck_at true at position)) }
-{
-    write!(out, "{{\"no_token_at\":{at}")?;
-    write_members(out, position)?;
-    out.write_all(b"}\n")?;
-    Ok(())
-}
-
-#[tactic(auto, using(crate::proofs::PrintedLemmas::writes))]
-fn write_stuck_line<W: Write>(out: &mut W, at: usize, position: Option<Position>) -> io::Result<()>
-    ensures { OnOk result (Appends (W.contents out.old) (W.contents out.new) (stuck_at false at position)) }
-{
-    write!(out, "no token at {at}")?;
-    write_position(out, position)?;
-    out.write_all(b"\n")?;
-    Ok(())
 }
 
 impl Report<'_, '_, '_> {

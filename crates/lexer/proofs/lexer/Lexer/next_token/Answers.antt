@@ -7,7 +7,7 @@ use Rattle.lexer.proofs.lexer.Lexer.next_token.Goals as goal
 pub returns-then-is_some-clause-end : goal.returns-then-is_some-clause-end
 returns-then-is_some-clause-end c = λ res meant.
     let inv = c.loop-at.invariant in
-    let tokens = token_there res c.args.text.now in
+    let tokens = token_there c.args.prefer res c.args.text.now in
     let token = c.token_at.ensures.token res (rw inv.kept meant) in
     let found = is-found token_found c.token_at.result (tokens c.loop-at.at) true token (search rules) in
     sym (inv.same res meant
@@ -18,7 +18,7 @@ loop-at-preserved c =
     let inv = c.loop-at.invariant in
     record {
       same = λ res meant.
-          let tokens = token_there res c.args.text.now in
+          let tokens = token_there c.args.prefer res c.args.text.now in
           let token = c.token_at.ensures.token res (rw inv.kept meant) in
           let none = is-found token_found c.token_at.result (tokens c.loop-at.at) false token (search rules) in
           inv.same res meant
@@ -30,5 +30,5 @@ pub returns-clause-end : goal.returns-clause-end
 returns-clause-end c = λ res meant.
     let there : c.loop-at.at ≡ length c.args.text.now =
     omega (arith, c.loop-at-test.false, c.loop-at.auto.at-end c.requires) in
-    stretch-end (token_there res c.args.text.now) (length c.args.text.now)
+    stretch-end (token_there c.args.prefer res c.args.text.now) (length c.args.text.now)
     ∙ sym (rw there at (c.loop-at.invariant.same res meant))

@@ -7,7 +7,7 @@ use Rattle.lexer.proofs.lexer.Lexer.next_token.Given as goal
 abbrev pub invariant-loop-at : goal.invariant-loop-at
 invariant-loop-at l = record {
   same : (res : List Re) → AreMeant byte_syntax l.fn.self res
-      → stretch_end (token_there res l.text) (length l.text - l.from) l.from
-      ≡ stretch_end (token_there res l.text) (length l.text - l.at) l.at;
+      → stretch_end (token_there l.prefer res l.text) (length l.text - l.from) l.from
+      ≡ stretch_end (token_there l.prefer res l.text) (length l.text - l.at) l.at;
   kept : l.self ≡ l.fn.self;
 }

@@ -3,9 +3,9 @@ use Rattle.std.proofs.Common.{rules, ◌≡◌, ◌∙◌, List, arith, length}
 use Rattle.std.proofs.KnownBytes.{Appends-kept}
 use Rattle.nfa_compiler.specs.Common.{Re}
 use Rattle.lexer.specs.Rules.{Mean}
-use Rattle.lexer.specs.Lexed.{piece_found}
+use Rattle.lexer.specs.Lexed.{piece_found, recovered}
 use Rattle.lexer.proofs.PositionLemmas.{position-moved, position-start}
-use Rattle.lexer.proofs.PrintedLemmas.{pieces-printed, printed-more, printed-none}
+use Rattle.lexer.proofs.PrintedLemmas.{pieces-outcome, pieces-printed, printed-more, printed-none}
 use Rattle.lexer.proofs.report.Report.print_pieces.Goals as goal
 
 pub loop-at-init : goal.loop-at-init
@@ -54,5 +54,7 @@ returns g c =
     (rw end at (inv.printed res (rw c.requires meant))) in
     record {
       printed = λ res meant. Appends-kept _ _ _ _ (all res meant).0 c.flush.ensures.bytes;
-      whole = λ res meant. (all res meant).1;
+      outcome = λ res meant. c.ended.ensures
+          ∙ pieces-outcome report.text.now (recovered report.style.prefer res report.text.now) c.loop-at.whole
+          (all res meant).1;
     }

@@ -1,5 +1,5 @@
 -- A token more was printed, or none starts where the last one ends.
-use Rattle.std.proofs.Common.{rules, ◌≡◌, ◌∙◌, List, arith, length, None, true}
+use Rattle.std.proofs.Common.{rules, ◌≡◌, ◌∙◌, List, arith, length, None, refl, true}
 use Rattle.std.proofs.KnownBytes.{Appends-kept}
 use Rattle.nfa_compiler.specs.Common.{Re}
 use Rattle.lexer.specs.Rules.{Mean}
@@ -30,7 +30,7 @@ loop-at-preserved g c =
             c.shown_at-shown.ensures.text,
           ) at c.in_ok-write_token.ensures in
           printed-more report.style report.rules.now res report.text.now _ c.loop-at.at true _ c.loop-at.position _ _
-          c.loop-at-test.true (inv.printed res meant) (token-piece res report.text.now c.loop-at.at _ is) inv.position
+          c.loop-at-test.true (inv.printed res meant) (token-piece report.style.prefer res report.text.now c.loop-at.at _ is) inv.position
           writes;
       position = c.moved-position.ensures
           ∙ position-moved report.style.positions c.loop-at.position report.text.now c.loop-at.at
@@ -44,13 +44,14 @@ returns-in_default g c =
     let report = c.args.self.now in
     let inv = c.loop-at.invariant in
     let none : c.token_at.result ≡ None = search rules in
-    let writes = Appends-kept (g.W.Write.contents c.loop-at.out) (g.W.Write.contents c.write_stuck.new.out) _ _
-    (rw inv.position at c.in_ok-write_stuck.ensures) c.flush.ensures.bytes in
     let stuck = λ (res : List Re) (meant : Mean report.rules.now res).
-    stuck-printed report.style report.rules.now res report.text.now _ c.loop-at.at _ _
+    stuck-printed report.style report.rules.now res report.text.now _ c.loop-at.at _
     c.loop-at-test.true (inv.printed res (rw c.requires meant))
-    (rw none at (c.token_at.ensures.token res (rw (inv.kept, c.requires) meant))) writes in
-    record { printed = λ res meant. (stuck res meant).0; whole = λ res meant. (stuck res meant).1 }
+    (rw none at (c.token_at.ensures.token res (rw (inv.kept, c.requires) meant))) in
+    record {
+      printed = λ res meant. Appends-kept _ _ _ _ (stuck res meant).0 c.flush.ensures.bytes;
+      outcome = λ res meant. rw (stuck res meant).1 c.stuck_at.ensures;
+    }
 
 pub returns : goal.returns
 returns g c =
@@ -63,5 +64,5 @@ returns g c =
     (rw end at (inv.printed res (rw c.requires meant))) in
     record {
       printed = λ res meant. Appends-kept _ _ _ _ (all res meant).0 c.flush-2.ensures.bytes;
-      whole = λ res meant. (all res meant).1;
+      outcome = λ res meant. rw (all res meant).1 refl;
     }
