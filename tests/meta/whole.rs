@@ -1,7 +1,8 @@
 //! What a regex keeps of its texts, and what it says of its groups.
+ghost use Rattle.std.specs.Prelude.{[]};
 
+use nfa_engines::{Captures, Input, Span};
 use nfa_meta::{NoExpand, Regex, RegexSet, Replacer, extract};
-use nfa_engines::{Captures, Input};
 use std::alloc::AllocError;
 use std::test::Fail;
 use test_support::TestRuntime;
@@ -75,26 +76,24 @@ fn groups_of_each_match_are_counted(rt: HostRuntime) -> Result<(), Fail> {
 }
 
 #[test]
-fn texts_of_groups_are_extracted(rt: HostRuntime) -> Result<(), Fail> {
+fn spans_of_groups_are_extracted(rt: HostRuntime) -> Result<(), Fail> {
     let alloc = rt.alloc();
     let mut regex = Regex::new(alloc, r"([0-9]{4})-([0-9]{2})(x)?")?;
     let mut captures = regex.create_captures(alloc)?;
     let text = b"on 2010-03x";
     regex.captures(Input::new(text), &mut captures);
-    let Some((found, texts)) = extract::<3>(&captures, text) else {
-        return Err("three groups".into());
-    };
-    assert_eq!(rt; found, b"2010-03x".as_slice());
-    assert_eq!(rt; texts[0], b"2010".as_slice());
-    assert_eq!(rt; texts[1], b"03".as_slice());
-    assert_eq!(rt; texts[2], b"x".as_slice());
-    assert!(rt; extract::<2>(&captures, text).is_none());
-    assert!(rt; extract::<4>(&captures, text).is_none());
+    let (found, groups) = extract::<3>(&captures).ok_or("three groups")?;
+    assert_eq!(rt; found, Span { start: 3, end: 11 });
+    assert_eq!(rt; groups[0], Span { start: 3, end: 7 });
+    assert_eq!(rt; groups[1], Span { start: 8, end: 10 });
+    assert_eq!(rt; groups[2], Span { start: 10, end: 11 });
+    assert!(rt; extract::<2>(&captures).is_none());
+    assert!(rt; extract::<4>(&captures).is_none());
     // The third group takes no part, or nothing matches.
     for text in [b"on 2010-03".as_slice(), b"never"] {
         regex.captures(Input::new(text), &mut captures);
-        assert!(rt; extract::<3>(&captures, text).is_none());
-        assert!(rt; extract::<0>(&captures, text).is_none());
+        assert!(rt; extract::<3>(&captures).is_none());
+        assert!(rt; extract::<0>(&captures).is_none());
     }
     Ok(())
 }
@@ -103,6 +102,8 @@ fn texts_of_groups_are_extracted(rt: HostRuntime) -> Result<(), Fail> {
 struct Bracketed;
 
 impl Replacer for Bracketed {
+    ghost appends = { λ _ _ _. [] };
+
     fn replace_append(
         &self,
         haystack: &[u8],

@@ -1,5 +1,5 @@
 -- A way whose states are marked until one writes the slot writes it, so each match has it.
-use Rattle.nfa_paths.proofs.Common.{◌≡◌, ◌<◌, ◌+◌, All, ◌/◌, ℕ, List, sum_by, slot_count, [], ◌∷◌, length, map, get_or, slice_get, slice_get_within, refl, sym, arith, rules, subst, inl, inr, is_some, true, false, Bool, Option, None, Some, option_and_then, option_or, range_with_len, slot_row, Search, Automaton, IsScanAnswer, IsSearchAnswer, IsAnswer, IsMatch, MatchKind, Node, In, Linked, HeadIs, EndsWith, Pair, PathTo, edges, starts, node_at, pattern_of, slot_of, path_pattern, raised, slot_among}
+use Rattle.nfa_paths.proofs.Common.{◌≡◌, ◌<◌, ◌+◌, All, Err, IfOk, IsTrue, Ok, Result, ◌/◌, ℕ, List, sum_by, slot_count, [], ◌∷◌, length, map, get_or, slice_get, slice_get_within, refl, sym, arith, rules, subst, inl, inr, is_some, true, false, Bool, Option, None, Some, option_and_then, option_or, range_with_len, slot_row, Search, Automaton, IsScanAnswer, IsSearchAnswer, IsAnswer, IsMatch, MatchKind, Node, In, Linked, HeadIs, EndsWith, Pair, PathTo, edges, starts, node_at, pattern_of, slot_of, path_pattern, raised, slot_among}
 use Rattle.std.proofs.lemmas.List.FromFn.{get_or-map-range_with_len}
 use Rattle.nfa_paths.specs.StatePaths.{IsStart, IsStatePath, open_edges, position_after, targets}
 use Rattle.nfa_paths.proofs.AnswerLemmas.{scan_answer-leads}
@@ -30,6 +30,15 @@ module _ (nfa : Automaton) (slot : ℕ) (marks : List Bool) (unwritten : AreUnwr
   always_written end (v ∷ rest) way matches =
       marked-writes rest v end (rw way.head (unwritten.starts way.start.0 way.starts)) way.linked way.ends matches
 
+-- so marks that pass both tests show it
+pub shows_written : (nfa : Automaton) (slot : ℕ) (marks : List Bool) {E : Type 0} (result : Result Bool E)
+    → ((s : ℕ) → IsStart nfa s → IsMarked marks s)
+    → IfOk result (λ all. IsTrue all → (s : ℕ) → IsMarked marks s → LeadsToMarked slot marks (node_at nfa s))
+    → IfOk result (λ shows. IsTrue shows → AlwaysWrites nfa slot)
+shows_written nfa slot marks (Ok all) begin leads =
+    λ yes. always_written nfa slot marks (record { starts = begin; leads = leads yes })
+shows_written nfa slot marks (Err e) begin leads = tt
+
 -- a state that is no Match leads to marked states if all that follows it is marked
 pub leads_by_all : (slot : ℕ) (marks : List Bool) (node : Node) → is_some (pattern_of node) ≡ false
     → All (IsMarked marks) (targets node) → LeadsToMarked slot marks node
@@ -56,7 +65,7 @@ module _ (nfa : Automaton) (kind : MatchKind) (earliest : Bool) (x : Search) (sl
   unfolding slot_row
   row-has count restarts None h pattern is within = cc
   row-has count restarts (Some p) h pattern is within =
-      rw (get_or-map-range_with_len (slot_among nfa p) 0 count slot slot None within refl) (answer-writes restarts p h)
+      rw (get_or-map-range_with_len (slot_among nfa p) 0 count slot slot None within (omega arith)) (answer-writes restarts p h)
 
   -- so an answer with a match has an offset in the slot, if it has the slot
   pub answers-set : (pattern : ℕ) (slots : List (Option ℕ)) → IsAnswer nfa kind earliest x (Some pattern) slots

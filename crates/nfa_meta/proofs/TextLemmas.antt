@@ -1,7 +1,7 @@
 -- How the texts of a list are written.
 use Rattle.std.proofs.Common.{◌≡◌, ◌∙◌, List, [], ◌∷◌, Option, None, Some, ap, map, refl, string_bytes, sym, ℕ}
 use Rattle.std.specs.Prelude.{String, codes}
-use Rattle.std.specs.Fmt.{comma_space, debug_items, debug_list, debug_str, debug_variant, ◌++?◌}
+use Rattle.std.specs.Fmt.{comma_space, debug_items, debug_list, debug_str, ◌++?◌}
 use Rattle.std.specs.declared.alloc.Global.{Global}
 use Rattle.nfa_meta.specs.Texts.{only_text, regex_debug, set_debug, shown}
 
@@ -27,7 +27,7 @@ shown-list (text ∷ []) none = cc
 shown-list (text ∷ (other ∷ texts)) none = refl
 
 debug-list : (texts : List (List ℕ)) → only_text texts ≡ None
-    → regex_debug texts ≡ debug_variant (codes "Regex") (debug_list debug_str texts)
+    → regex_debug texts ≡ (Some (codes "Regex(") ++? debug_list debug_str texts ++? Some (codes ")"))
 debug-list [] none = refl
 debug-list (text ∷ []) none = cc
 debug-list (text ∷ (other ∷ texts)) none = refl
@@ -39,8 +39,10 @@ module _ (texts : List (List ℕ)) (own : List (String Global)) (are : map strin
   pub shown_strings : only_text texts ≡ None → shown texts ≡ debug_strings own
   shown_strings none = shown-list texts none ∙ listed
 
-  pub debug_of_strings : only_text texts ≡ None → regex_debug texts ≡ debug_variant (codes "Regex") (debug_strings own)
-  debug_of_strings none = debug-list texts none ∙ ap (debug_variant (codes "Regex")) listed
+  pub debug_of_strings : only_text texts ≡ None
+      → regex_debug texts ≡ (Some (codes "Regex(") ++? debug_strings own ++? Some (codes ")"))
+  debug_of_strings none =
+      debug-list texts none ∙ ap (λ out. Some (codes "Regex(") ++? out ++? Some (codes ")")) listed
 
-  pub set_of_strings : set_debug texts ≡ debug_variant (codes "RegexSet") (debug_strings own)
-  set_of_strings = ap (debug_variant (codes "RegexSet")) listed
+  pub set_of_strings : set_debug texts ≡ (Some (codes "RegexSet(") ++? debug_strings own ++? Some (codes ")"))
+  set_of_strings = ap (λ out. Some (codes "RegexSet(") ++? out ++? Some (codes ")")) listed

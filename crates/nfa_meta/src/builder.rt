@@ -306,6 +306,21 @@ impl Builder {
         ensures why { IfErr result (IsWhyNotBuilt self.now (map (λ text. text.now) patterns.now)) }
     {
         let nfa = self.compiler().build_many(alloc, patterns)?;
+        self.build_with_texts(alloc, nfa, patterns)
+    }
+
+    /// Makes a regex of the NFA of these patterns, and copies their texts. The only error is `Memory`.
+    fn build_with_texts(
+        &self,
+        alloc: Global,
+        nfa: NFA,
+        patterns: &[&str],
+    ) -> Result<Regex, BuildError>
+        ensures made { IfOk result (λ made. made ≡ record (regex_of nfa self.now.config) {
+          texts = map (λ text. text.now) patterns.now;
+        }) }
+        ensures memory { IsOkUnless result BuildError.Memory }
+    {
         let Ok(texts) = Texts::of(alloc, patterns) else {
             return Err(BuildError::Memory);
         };

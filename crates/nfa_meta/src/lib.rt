@@ -11,7 +11,7 @@
 
 mod builder;
 mod error;
-mod extract;
+mod group_spans;
 pub mod interpolate;
 pub mod laws;
 pub mod regex;
@@ -20,7 +20,7 @@ pub mod set;
 
 pub use builder::{Builder, Config};
 pub use error::BuildError;
-pub use extract::extract;
+pub use group_spans::extract;
 pub use nfa_choice::Engine;
 pub use nfa_compiler::{CompileError, Flags, Syntax};
 pub use regex::{CapturesMatches, FindMatches, HalfMatches, Regex, Split, SplitN};

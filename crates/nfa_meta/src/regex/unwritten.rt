@@ -33,13 +33,29 @@ pub(super) fn groups_always_set(alloc: Global, nfa: &NFA) -> Result<Option<usize
 ///
 /// It marks the states that ways lead to on which nothing wrote the slot, and then tests that these are all, and that no
 /// `Match` is among them.
-#[tactic(auto, using(crate::proofs::AlwaysSetLemmas::always_written))]
 fn is_always_written(alloc: Global, nfa: &NFA, slot: usize) -> Result<bool, AllocError>
     requires { length nfa.now.patterns ≡ 1 }
     ensures { IfOk result (λ always. IsTrue always → AlwaysWrites nfa.now slot) }
 {
     let marks = unwritten_states(alloc, nfa, slot)?;
-    Ok(starts_are_marked(nfa, &marks) && targets_are_marked(alloc, nfa, slot, &marks)?)
+    shows_that_written(alloc, nfa, slot, &marks)
+}
+
+/// Whether the marks show that each way writes the slot.
+fn shows_that_written(
+    alloc: Global,
+    nfa: &NFA,
+    slot: usize,
+    marks: &[bool],
+) -> Result<bool, AllocError>
+    requires { length nfa.now.patterns ≡ 1 }
+    ensures { IfOk result (λ shows. IsTrue shows → AlwaysWrites nfa.now slot) }
+{
+    if starts_are_marked(nfa, marks) {
+        targets_are_marked(alloc, nfa, slot, marks)
+    } else {
+        Ok(false)
+    }
 }
 
 /// Whether a state is marked.
@@ -109,7 +125,6 @@ fn state_leads_to_marked(
 }
 
 /// Whether the state writes the slot, or is no `Match` and leads only to marked states.
-#[tactic(auto, using(crate::proofs::AlwaysSetLemmas::leads_by_all))]
 fn leads_to_marked(
     alloc: Global,
     state: &State,
