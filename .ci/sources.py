@@ -15,7 +15,8 @@ root = pathlib.Path(__file__).resolve().parent.parent
 # the sources, the types, and the functions outside of types.
 GROUPS = [
     ('One regex', 'nfa_meta', 'nfa_meta',
-     'Regex RegexSet SetMatches Builder Config BuildError FindMatches CapturesMatches HalfMatches Split SplitN', ''),
+     'Regex RegexSet SetMatches Builder Config BuildError FindMatches CapturesMatches HalfMatches Split SplitN '
+     'NoExpand Replacer', 'extract'),
     ('Templates of replacements', 'nfa_meta::interpolate', 'nfa_meta', 'Template Part TemplateError', ''),
     ('The PikeVM', 'nfa_engines::pikevm', 'nfa_pikevm', 'PikeVM Cache Config Builder FindMatches CapturesMatches', ''),
     ('The backtracker', 'nfa_engines::backtrack', 'nfa_backtrack',
@@ -164,7 +165,7 @@ class Item(NamedTuple):
 
 # Public items, `impl` blocks of types and the ends of blocks, each after its documentation.
 PARTS = re.compile(r'(?m)^impl(?:<[^\n]*?>)? (?P<type>\w+)[^\n]*?\{|^\}|^(?P<said>(?: *///[^\n]*\n)*)'
-                   r'(?: *#\[[^\n]*\]\n)* *pub (?:const )?(?P<kind>fn|struct|enum) (?P<name>\w+)')
+                   r'(?: *#\[[^\n]*\]\n)* *pub (?:const )?(?P<kind>fn|struct|enum|trait) (?P<name>\w+)')
 MEMBERS = re.compile(r'(?m)^((?: {4}///[^\n]*\n)*)(?: {4}#\[[^\n]*\]\n)* {4}(?:([A-Z]\w*)|pub (\w+):)[^\n]*')
 CLAUSE = re.compile(r'\s*(?://[^\n]*\n\s*)*(requires|ensures)\b\*?\s*(\w*)\s*\{')
 

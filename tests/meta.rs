@@ -15,5 +15,6 @@ mod sets;
 mod starts;
 mod templates;
 mod texts;
+mod whole;
 mod windows;
 mod written;

@@ -1,21 +1,26 @@
-//! A regex beside a choice, over random patterns and texts. `notes/alike` runs more of them, from other seeds.
+//! A regex beside a choice, and a set beside a choice of the kind `All`, over random patterns and texts. `notes/alike` runs
+//! more of them, from other seeds.
 
 use crate::tests::written::{Chance, patterns_of, text_of};
 use nfa_choice::choose::Choice;
 use nfa_compiler::Compiler;
-use nfa_engines::{Anchored, Input, Match, NonMaxUsize, PatternID, PatternSet, backtrack, pikevm};
-use nfa_meta::{Config, Regex};
+use nfa_engines::{
+    Anchored, Input, Match, MatchKind, NonMaxUsize, PatternID, PatternSet, backtrack, pikevm,
+};
+use nfa_meta::{Config, Regex, RegexSet};
 use std::test::Fail;
 use test_support::TestRuntime;
 
 /// How many texts each of them searches.
 const TEXTS: usize = 4;
 
-// Two engines for the same patterns, and the patterns, for what is said if they differ.
+// Engines for the same patterns, and the patterns, for what is said if they differ.
 #[derive(Drop)]
 struct Pair<'p> {
     regex: Regex,
     choice: Choice,
+    set: RegexSet,
+    all: Choice,
     patterns: &'p [&'p str],
 }
 
@@ -42,11 +47,16 @@ fn pair_of<'p>(
     let nfa = Compiler::new()
         .configure(of_nfa)
         .build_many(rt.alloc(), patterns)?;
+    let set = builder.build_set(rt.alloc(), patterns)?;
     let (back, pike) = (backtrack::Config::new(), pikevm::Config::new());
+    let of_all = pikevm::Config::new().match_kind(MatchKind::All);
+    let all = Choice::new(rt.alloc(), nfa.clone()?, back, of_all)?;
     let choice = Choice::new(rt.alloc(), nfa, back, pike)?;
     Ok(Some(Pair {
         regex,
         choice,
+        set,
+        all,
         patterns,
     }))
 }
@@ -110,6 +120,27 @@ impl Pair<'_> {
         Ok(())
     }
 
+    // The set holds the same patterns as the choice of the kind `All`, and both find a match or none.
+    fn expect_same_of_all(&mut self, rt: &impl TestRuntime, input: &Input<'_>) -> Result<(), Fail> {
+        let patterns = self.patterns;
+        let found = self.set.matches(rt.alloc(), input)?;
+        let mut wanted = PatternSet::new(rt.alloc(), patterns.len())?;
+        self.all.which_overlapping_matches(input, &mut wanted);
+        for number in 0..patterns.len() {
+            assert_eq!(rt;
+                found.matched(number),
+                wanted.contains_number(number),
+                "{patterns:?} {input:?}"
+            );
+        }
+        assert_eq!(rt;
+            self.set.is_match(*input),
+            self.all.is_match(*input),
+            "{patterns:?} {input:?}"
+        );
+        Ok(())
+    }
+
     // Both give the same list of matches, and of captures.
     fn expect_same_lists(&mut self, rt: &impl TestRuntime, input: Input<'_>) -> Result<(), Fail> {
         let patterns = self.patterns;
@@ -137,6 +168,7 @@ impl Pair<'_> {
             self.expect_same_slots(rt, &input, count);
         }
         self.expect_same_set(rt, &input)?;
+        self.expect_same_of_all(rt, &input)?;
         self.expect_same_lists(rt, input)
     }
 }

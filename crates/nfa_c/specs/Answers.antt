@@ -6,7 +6,7 @@ use Rattle.regex_search_core.specs.Search.{Search, whole}
 use Rattle.nfa_paths.specs.Paths.{IsAnswer, IsFindAnswer, IsHalfAnswer}
 use Rattle.nfa_search_base.specs.Lists.{IsInside}
 use Rattle.nfa_choice.specs.ChoiceState.{ChoiceState, kind_in}
-use Rattle.nfa_meta.specs.Built.{HasNotSearched, IsBuiltFrom, regex_of}
+use Rattle.nfa_meta.specs.Built.{HasNotSearched, IsBuiltFrom, unsearched}
 use Rattle.nfa_meta.specs.RegexState.{KeepsRegex}
 use Rattle.nfa_meta.specs.declared.builder.Builder.{Builder}
 use Rattle.nfa_c.specs.Codes.{code_of}
@@ -33,7 +33,7 @@ pub record IsMade (b : Builder) (texts : List (List ℕ)) (own : Compiled) : Typ
 
 -- the regex is one for the same NFA with the same settings, and has not searched yet
 pub record IsCopy (own copy : Compiled) : Type 0 where
-  pub regex : copy.regex ≡ regex_of own.regex.choice.nfa own.regex.config
+  pub regex : copy.regex ≡ unsearched own.regex
   pub row : HasRow own → HasRow copy
 
 -- what a search keeps

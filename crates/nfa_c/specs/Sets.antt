@@ -6,9 +6,8 @@ use Rattle.regex_search_core.specs.declared.search.MatchKind.TheVariants.{All}
 use Rattle.nfa_paths.specs.Overlaps.{IsOverlapResult}
 use Rattle.nfa_paths.specs.Paths.{IsBoolAnswer}
 use Rattle.nfa_compiler.specs.Rejected.{compile_error_text}
-use Rattle.nfa_hybrid.specs.HybridState.{HybridState, KeepsHybrid}
 use Rattle.nfa_meta.specs.Built.{IsBuiltFrom, IsErrorOf}
-use Rattle.nfa_meta.specs.RegexSets.{IsNewSet, no_pattern}
+use Rattle.nfa_meta.specs.RegexSets.{IsNewSet, KeepsSet as KeepsRegexSet, SetState, no_pattern}
 use Rattle.nfa_meta.specs.declared.builder.Builder.{Builder}
 use Rattle.nfa_c.specs.Codes.{code_of, memory_code, over, pattern_code, range_code, utf8_code}
 use Rattle.nfa_c.specs.Texts.{AreEnds, AreUtf8, texts_in}
@@ -18,18 +17,18 @@ use Rattle.nfa_c.specs.declared.set_handle.CompiledSet.{CompiledSet}
 
 -- the set is what the builder makes of these texts, and has not searched yet
 pub record IsMadeSet (b : Builder) (texts : List (List ℕ)) (own : CompiledSet) : Type 0 where
-  pub built : IsBuiltFrom b texts own.set.nfa
+  pub built : IsBuiltFrom b texts own.set.engine.nfa
   pub engines : IsNewSet b.config own.set
 
 -- the set is one for the same NFA with the same settings
 pub record IsCopySet (own copy : CompiledSet) : Type 0 where
-  pub nfa : copy.set.nfa ≡ own.set.nfa
-  pub config : copy.set.config ≡ own.set.config
+  pub nfa : copy.set.engine.nfa ≡ own.set.engine.nfa
+  pub config : copy.set.engine.config ≡ own.set.engine.config
 
 -- a handle stays empty, or stays full and keeps what searches keep
 abbrev pub KeepsSet : Option CompiledSet → Option CompiledSet → Type 0
 KeepsSet None new = new ≡ None
-KeepsSet (Some old) new = IsSomeAnd new (λ own. KeepsHybrid old.set own.set)
+KeepsSet (Some old) new = IsSomeAnd new (λ own. KeepsRegexSet old.set own.set)
 
 -- the code of a failure
 abbrev pub set_failure_code : SetFailure → ℤ
@@ -82,16 +81,16 @@ pub record SaysWhetherAny (found : List Bool) (code : ℤ) : Type 0 where
   pub some : size_of_set found ≢ 0 → code ≡ code_of true
 
 -- What an export says of the search x by the set s.
-module _ (s : HybridState) (x : Search) where
+module _ (s : SetState) (x : Search) where
   -- the code says whether one of the patterns matches
   pub record IsSetAnswer (code : ℤ) : Type 0 where
     pub found : Bool
-    pub answers : IsBoolAnswer s.nfa All false x found
+    pub answers : IsBoolAnswer s.engine.nfa All false x found
     pub code_is : code ≡ code_of found
 
   -- the bytes say which patterns match, and the code whether one does
   pub record AreMatching (code : ℤ) (marks : List ℕ) : Type 0 where
     pub found : List Bool
-    pub answers : IsOverlapResult s.nfa x All x.earliest (no_pattern s.nfa) found
+    pub answers : IsOverlapResult s.engine.nfa x All x.earliest (no_pattern s.engine.nfa) found
     pub code_says : SaysWhetherAny found code
     pub marks_are : AreMarks found marks

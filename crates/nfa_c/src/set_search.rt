@@ -13,7 +13,7 @@ use std::alloc::Global;
 /// Returns the number of patterns. 0 for an empty handle.
 #[unsafe(no_mangle)]
 pub extern "C" fn nfa_regex_set_len(alloc: Global, set: &mut NfaSet) -> usize
-    ensures count { IfSome set.old.slot.value (λ own. result ≡ length own.set.nfa.patterns) }
+    ensures count { IfSome set.old.slot.value (λ own. result ≡ length own.set.engine.nfa.patterns) }
     ensures empty { set.old.slot.value ≡ None → result ≡ 0 }
     ensures keeps { set.new.slot.value ≡ set.old.slot.value }
 {

@@ -1,3 +1,4 @@
+pub mod AlwaysSetLemmas
 pub mod AnchoredLemmas
 pub mod CaughtLemmas
 pub mod CountLemmas
@@ -6,8 +7,8 @@ pub mod GapLemmas
 pub mod GoesOnLemmas
 pub mod GroupLemmas
 pub mod HalvesLemmas
-pub mod MatchesLemmas
 pub mod MatchSlotLemmas
+pub mod MatchesLemmas
 pub mod NamesLemmas
 pub mod PrefixLemmas
 pub mod QuickLemmas
@@ -17,5 +18,6 @@ pub mod Rewriting
 pub mod RunLemmas
 pub mod SplitLemmas
 pub mod SplitNLemmas
+pub mod TextLemmas
 pub mod WindowLemmas
 pub mod WorkLemmas

@@ -5,12 +5,19 @@ use Rattle.nfa_meta.specs.RegexState.{KeepsRegex, RegexState}
 use Rattle.nfa_meta.specs.WindowRuns.{by_window}
 
 pub regex_self : (r : RegexState) → KeepsRegex r r
-regex_self r = record { engines = keeps-self r.choice; config = refl; rows = λ room. room; stops = omega arith }
+regex_self r = record {
+  engines = keeps-self r.choice;
+  config = refl;
+  texts = refl;
+  rows = λ room. room;
+  stops = omega arith;
+}
 
 pub regex_then : (a b c : RegexState) → KeepsRegex a b → KeepsRegex b c → KeepsRegex a c
 regex_then a b c f g = record {
   engines = keeps-then a.choice b.choice c.choice f.engines g.engines;
   config = g.config ∙ f.config;
+  texts = g.texts ∙ f.texts;
   rows = λ room. g.rows (f.rows room);
   stops = omega (arith, f.stops, g.stops);
 }

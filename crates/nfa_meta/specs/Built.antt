@@ -1,5 +1,5 @@
 -- What a builder makes of the texts of patterns, and why it fails.
-use Rattle.std.specs.Prelude.{◌≡◌, ℕ, true, false, List, Option, None, codes, ⊤}
+use Rattle.std.specs.Prelude.{◌≡◌, ℕ, true, false, List, [], Option, None, codes, ⊤}
 use Rattle.regex_syntax.specs.Verdict.{default_config}
 use Rattle.nfa_paths.specs.Common.{Automaton, IsAutomaton, is_utf8_empty}
 use Rattle.nfa_backtrack.specs.Backtrack.{empty_cache}
@@ -52,15 +52,20 @@ engines_of nfa capacity = record {
   ran = None;
 }
 
--- the regex of an NFA with these settings, before its first search
+-- the regex of an NFA with these settings, before its first search: it was built of no texts
 abbrev pub regex_of : Automaton → Config → RegexState
 regex_of nfa config = record {
   choice = engines_of nfa config.backtrack_visited_capacity;
   config = config;
+  texts = [];
   rows = 0;
   stops = 0;
   steps = 0;
 }
+
+-- the regex of the same NFA with the same settings and texts, before its first search
+abbrev pub unsearched : RegexState → RegexState
+unsearched r = record (regex_of r.choice.nfa r.config) { texts = r.texts }
 
 -- the regex has these settings, and has not searched yet: both caches are as they were made, and there are no rows of
 -- the lazy DFA and no sure steps

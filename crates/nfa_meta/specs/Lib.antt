@@ -1,7 +1,9 @@
+pub mod AlwaysSet
 pub mod Built
 pub mod CapturesMatches
 pub mod CapturesSteps
 pub mod Counted
+pub mod Extracted
 pub mod Filled
 pub mod Gaps
 pub mod GroupNames
@@ -16,6 +18,7 @@ pub mod Rewritten
 pub mod Splits
 pub mod Templates
 pub mod TemplateTexts
+pub mod Texts
 pub mod Windowed
 pub mod WindowLaws
 pub mod WindowRuns

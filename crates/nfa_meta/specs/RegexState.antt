@@ -1,5 +1,5 @@
 -- A regex as a value, and what its searches keep.
-use Rattle.std.specs.Prelude.{◌≡◌, ◌≤◌, ◌+◌, ◌-◌, ◌^◌, ℕ, min, if◌then◌else◌}
+use Rattle.std.specs.Prelude.{◌≡◌, ◌≤◌, ◌+◌, ◌-◌, ◌^◌, ℕ, List, min, if◌then◌else◌}
 use Rattle.nfa_backtrack.specs.Backtrack.{memory_of}
 use Rattle.nfa_pikevm.specs.Engines.{Pike, pike_memory_of}
 use Rattle.nfa_choice.specs.ChoiceState.{ChoiceState, KeepsEngines, pike_of as pike_of_choice}
@@ -13,11 +13,12 @@ row_capacity c = if c.hybrid then c.hybrid_cache_capacity else 0
 abbrev pub step_capacity : Config → ℕ
 step_capacity c = if c.onepass then c.onepass_size_limit else 0
 
--- what its choice shows, the settings, the bytes that the rows of the lazy DFA take, how many of the DFA's searches
--- stopped without an answer, and the bytes that sure steps take
+-- what its choice shows, the settings, the texts that it was built of, the bytes that the rows of the lazy DFA take, how
+-- many of the DFA's searches stopped without an answer, and the bytes that sure steps take
 pub record RegexState : Type 0 where
   pub choice : ChoiceState
   pub config : Config
+  pub texts : List (List ℕ)
   pub rows : ℕ
   pub stops : ℕ
   pub steps : ℕ
@@ -34,10 +35,11 @@ bytes_of r = min (memory_of r.choice.back + pike_memory_of r.choice.pike + r.row
 abbrev pub HasRoom : RegexState → Type 0
 HasRoom r = (r.rows ≤ row_capacity r.config) × (r.steps ≤ step_capacity r.config)
 
--- What a search keeps: the engines of the choice, and the settings. Rows and steps have room, if they had before, and
+-- What a search keeps: the engines of the choice, the settings and the texts. Rows and steps have room, if they had before, and
 -- no stop is forgotten.
 pub record KeepsRegex (old new : RegexState) : Type 0 where
   pub engines : KeepsEngines old.choice new.choice
   pub config : new.config ≡ old.config
+  pub texts : new.texts ≡ old.texts
   pub rows : HasRoom old → HasRoom new
   pub stops : old.stops ≤ new.stops

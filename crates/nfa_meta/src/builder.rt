@@ -9,6 +9,7 @@ ghost use Rattle.nfa_meta.specs.RegexState.{row_capacity};
 mod flags;
 mod names;
 mod one_pass;
+mod texts;
 
 use crate::error::BuildError;
 use crate::regex::Regex;
@@ -18,6 +19,7 @@ use nfa_engines::error::SearchError;
 use nfa_lazy_dfa::DFA;
 use regex_search_core::MatchKind;
 use std::alloc::Global;
+pub(crate) use texts::Texts;
 use thompson_nfa::NFA;
 
 /// The settings of a regex. The first three are those of its NFA, if it is compiled from texts. The others change what
@@ -279,6 +281,7 @@ impl Builder {
     /// allocation fails.
     pub fn build(&self, alloc: Global, pattern: &str) -> Result<Regex, BuildError>
         ensures built { IfOk result (λ made. IsBuiltFrom self.now (pattern.now ∷ []) made.choice.nfa) }
+        ensures texts { IfOk result (λ made. made.texts ≡ pattern.now ∷ []) }
         ensures engines { IfOk result (HasNotSearched self.now.config) }
         ensures why { IfErr result (IsWhyNotBuilt self.now (pattern.now ∷ [])) }
     {
@@ -298,12 +301,31 @@ impl Builder {
     pub fn build_many(&self, alloc: Global, patterns: &[&str]) -> Result<Regex, BuildError>
         ensures built { IfOk result (λ made.
             IsBuiltFrom self.now (map (λ text. text.now) patterns.now) made.choice.nfa) }
+        ensures texts { IfOk result (λ made. made.texts ≡ map (λ text. text.now) patterns.now) }
         ensures engines { IfOk result (HasNotSearched self.now.config) }
         ensures why { IfErr result (IsWhyNotBuilt self.now (map (λ text. text.now) patterns.now)) }
     {
         let nfa = self.compiler().build_many(alloc, patterns)?;
+        self.build_with_texts(alloc, nfa, patterns)
+    }
+
+    /// Makes a regex of the NFA of these patterns, and copies their texts. The only error is `Memory`.
+    fn build_with_texts(
+        &self,
+        alloc: Global,
+        nfa: NFA,
+        patterns: &[&str],
+    ) -> Result<Regex, BuildError>
+        ensures made { IfOk result (λ made. made ≡ record (regex_of nfa self.now.config) {
+          texts = map (λ text. text.now) patterns.now;
+        }) }
+        ensures memory { IsOkUnless result BuildError.Memory }
+    {
+        let Ok(texts) = Texts::of(alloc, patterns) else {
+            return Err(BuildError::Memory);
+        };
         match self.build_from_nfa(alloc, nfa) {
-            Ok(regex) => Ok(regex),
+            Ok(regex) => Ok(regex.with_texts(texts)),
             Err(_) => Err(BuildError::Memory),
         }
     }
@@ -336,6 +358,7 @@ impl Regex {
     /// ```
     pub fn new(alloc: Global, pattern: &str) -> Result<Regex, BuildError>
         ensures built { IfOk result (λ made. IsBuiltFrom default_builder (pattern.now ∷ []) made.choice.nfa) }
+        ensures texts { IfOk result (λ made. made.texts ≡ pattern.now ∷ []) }
         ensures engines { IfOk result (HasNotSearched default_settings) }
         ensures why { IfErr result (IsWhyNotBuilt default_builder (pattern.now ∷ [])) }
     {
@@ -355,6 +378,7 @@ impl Regex {
     pub fn new_many(alloc: Global, patterns: &[&str]) -> Result<Regex, BuildError>
         ensures built { IfOk result (λ made.
             IsBuiltFrom default_builder (map (λ text. text.now) patterns.now) made.choice.nfa) }
+        ensures texts { IfOk result (λ made. made.texts ≡ map (λ text. text.now) patterns.now) }
         ensures engines { IfOk result (HasNotSearched default_settings) }
         ensures why { IfErr result (IsWhyNotBuilt default_builder (map (λ text. text.now) patterns.now)) }
     {

@@ -11,15 +11,19 @@
 
 mod builder;
 mod error;
+mod group_spans;
 pub mod interpolate;
 pub mod laws;
 pub mod regex;
+mod replacer;
 pub mod set;
 
 pub use builder::{Builder, Config};
 pub use error::BuildError;
+pub use group_spans::extract;
 pub use nfa_choice::Engine;
 pub use nfa_compiler::{CompileError, Flags, Syntax};
 pub use regex::{CapturesMatches, FindMatches, HalfMatches, Regex, Split, SplitN};
 pub use regex_syntax::escape;
+pub use replacer::{NoExpand, Replacer};
 pub use set::{RegexSet, SetMatches};

@@ -12,7 +12,7 @@ ghost use Rattle.nfa_choice.specs.ChoiceState.{finds_in, kind_in};
 ghost use Rattle.nfa_lazy_dfa.specs.Configs.{kind_in as config_kind, kind_of, nfa_of};
 ghost use Rattle.nfa_lazy_dfa.specs.Limits.{capacity_in, max_clears_in};
 ghost use Rattle.nfa_lazy_dfa.specs.Rows.{capacity_of, max_clears_of};
-ghost use Rattle.nfa_meta.specs.Built.{default_settings, regex_of};
+ghost use Rattle.nfa_meta.specs.Built.{default_settings, regex_of, unsearched};
 ghost use Rattle.nfa_meta.specs.RegexState.{HasRoom, KeepsRegex, bytes_of};
 ghost use Rattle.nfa_meta.specs.WindowRuns.{RunsAfterDfa, RunsByWindow};
 
@@ -35,9 +35,12 @@ mod search;
 mod split;
 mod split_iter;
 mod start;
+mod static_len;
+mod texts;
+mod unwritten;
 mod window;
 
-use crate::builder::Config;
+use crate::builder::{Config, Texts};
 pub use captures_iter::CapturesMatches;
 pub use find_iter::FindMatches;
 pub use half_matches::HalfMatches;
@@ -64,6 +67,7 @@ use thompson_nfa::NFA;
 /// DFA answers.
 pub struct Regex {
     config: Config,
+    texts: Texts,
     dfa: DFA,
     cache: Cache,
     choice: Choice,
@@ -86,6 +90,7 @@ impl Drop for Regex {
     fn drop(self) {
         let Regex {
             config: _,
+            texts: _,
             dfa: _,
             cache: _,
             choice: _,
@@ -116,6 +121,7 @@ impl Model for Regex {
     ghost view = { λ r. record {
       choice = r.choice;
       config = r.config;
+      texts = r.texts;
       rows = memory_of r.cache;
       stops = stops_of r.cache;
       steps = steps_memory_of r.one_pass;
@@ -163,8 +169,8 @@ impl Regex {
         Regex::from_parts(alloc, nfa, Config::new())
     }
 
-    /// Returns a regex for the same NFA with the same settings and empty caches, for instance for another thread. The
-    /// only error is `Memory`.
+    /// Returns a regex for the same NFA with the same settings and texts and empty caches, for instance for another
+    /// thread. The only error is `Memory`.
     ///
     /// ```
     /// // regex of "foo[0-9]+"
@@ -173,7 +179,7 @@ impl Regex {
     /// assert_eq!(rt; found.expect(rt, "a match").range(), 0..8);
     /// ```
     pub fn clone(&self, alloc: Global) -> Result<Regex, SearchError>
-        ensures made { IfOk result (λ made. made ≡ regex_of self.now.choice.nfa self.now.config) }
+        ensures made { IfOk result (λ made. made ≡ unsearched self.now) }
         ensures capacity { IfOk result (λ made.
             made.choice.visited_capacity ≡ self.now.choice.visited_capacity) }
         ensures memory { IsOkUnless result SearchError.Memory }
@@ -181,7 +187,11 @@ impl Regex {
         let Ok(nfa) = self.get_nfa().clone() else {
             return Err(SearchError::Memory);
         };
-        Regex::from_parts(alloc, nfa, self.config)
+        let Ok(texts) = self.texts.clone(alloc) else {
+            return Err(SearchError::Memory);
+        };
+        let made = Regex::from_parts(alloc, nfa, self.config)?;
+        Ok(made.with_texts(texts))
     }
 
     /// Makes the engines for the NFA, with these settings and empty caches. The only error is `Memory`.
@@ -208,6 +218,7 @@ impl Regex {
         let choice = Choice::new(alloc, nfa, config.backtracker(), pikevm::Config::new())?;
         Ok(Regex {
             config,
+            texts: Texts::none(alloc),
             dfa,
             cache,
             choice,

@@ -1,16 +1,17 @@
 //! Which of many patterns match.
-ghost use Rattle.std.specs.Prelude.{◌≡◌, ◌↔◌, IfErr, IfOk, IsOkUnless, IsTrue, OnOk, false, length, map, not};
+ghost use Rattle.std.specs.Prelude.{◌≡◌, ◌↔◌, [], IfErr, IfOk, IsOkUnless, IsTrue, OnOk, false, length, map, not};
 ghost use Rattle.regex_search_core.specs.Search.{search_of};
 ghost use Rattle.regex_search_core.specs.declared.search.MatchKind.TheVariants.{All};
 ghost use Rattle.nfa_paths.specs.Overlaps.{IsOverlapResult};
 ghost use Rattle.nfa_paths.specs.Paths.{IsBoolAnswer, is_utf8_empty};
-ghost use Rattle.nfa_hybrid.specs.HybridState.{KeepsHybrid, RunsInTurn, SetRunsInTurn, bytes_of, kind_in};
+ghost use Rattle.nfa_hybrid.specs.HybridState.{RunsInTurn, SetRunsInTurn, bytes_of};
 ghost use Rattle.nfa_meta.specs.Built.{IsBuiltFrom, IsWhyNotBuilt, default_builder, default_settings};
-ghost use Rattle.nfa_meta.specs.RegexSets.{IsNewSet, no_pattern};
+ghost use Rattle.nfa_meta.specs.RegexSets.{IsNewSet, KeepsSet, no_pattern};
 
 mod matches;
+mod texts;
 
-use crate::builder::{Builder, Config};
+use crate::builder::{Builder, Config, Texts};
 use crate::error::BuildError;
 pub use matches::SetMatches;
 use nfa_engines::error::SearchError;
@@ -34,16 +35,18 @@ use thompson_nfa::NFA;
 #[derive(Drop)]
 pub struct RegexSet {
     hybrid: Hybrid,
+    texts: Texts,
 }
 
 impl Model for RegexSet {
     ghost use Rattle.std.specs.Prelude.{◌≡◌};
     ghost use Rattle.regex_search_core.specs.declared.search.MatchKind.TheVariants.{All};
-    ghost use Rattle.nfa_hybrid.specs.HybridState.{HybridState, kind_in};
+    ghost use Rattle.nfa_hybrid.specs.HybridState.{kind_in};
+    ghost use Rattle.nfa_meta.specs.RegexSets.{SetState};
 
-    ghost Value = { HybridState };
+    ghost Value = { SetState };
 
-    ghost view = { λ s. s.hybrid };
+    ghost view = { λ s. record { engine = s.hybrid; texts = s.texts } };
 
     ghost invariant = { λ s. kind_in s.hybrid ≡ All };
 }
@@ -60,13 +63,18 @@ impl Builder {
     /// assert!(rt; !set.is_match(Input::new(b"a foo")));
     /// ```
     pub fn build_set(&self, alloc: Global, patterns: &[&str]) -> Result<RegexSet, BuildError>
-        ensures built { IfOk result (λ made. IsBuiltFrom self.now (map (λ text. text.now) patterns.now) made.nfa) }
+        ensures built { IfOk result (λ made.
+            IsBuiltFrom self.now (map (λ text. text.now) patterns.now) made.engine.nfa) }
+        ensures texts { IfOk result (λ made. made.texts ≡ map (λ text. text.now) patterns.now) }
         ensures engines { IfOk result (IsNewSet self.now.config) }
         ensures why { IfErr result (IsWhyNotBuilt self.now (map (λ text. text.now) patterns.now)) }
     {
         let nfa = self.compiler().build_many(alloc, patterns)?;
+        let Ok(texts) = Texts::of(alloc, patterns) else {
+            return Err(BuildError::Memory);
+        };
         match RegexSet::from_parts(alloc, nfa, self.config) {
-            Ok(set) => Ok(set),
+            Ok(set) => Ok(set.with_texts(texts)),
             Err(_) => Err(BuildError::Memory),
         }
     }
@@ -85,7 +93,8 @@ impl RegexSet {
     /// ```
     pub fn new(alloc: Global, patterns: &[&str]) -> Result<RegexSet, BuildError>
         ensures built { IfOk result (λ made.
-            IsBuiltFrom default_builder (map (λ text. text.now) patterns.now) made.nfa) }
+            IsBuiltFrom default_builder (map (λ text. text.now) patterns.now) made.engine.nfa) }
+        ensures texts { IfOk result (λ made. made.texts ≡ map (λ text. text.now) patterns.now) }
         ensures engines { IfOk result (IsNewSet default_settings) }
         ensures why { IfErr result (IsWhyNotBuilt default_builder (map (λ text. text.now) patterns.now)) }
     {
@@ -100,7 +109,8 @@ impl RegexSet {
     /// assert!(rt; set.is_match(Input::new(b"a 12")));
     /// ```
     pub fn new_from_nfa(alloc: Global, nfa: NFA) -> Result<RegexSet, SearchError>
-        ensures nfa { IfOk result (λ made. made.nfa ≡ nfa) }
+        ensures nfa { IfOk result (λ made. made.engine.nfa ≡ nfa) }
+        ensures texts { IfOk result (λ made. made.texts ≡ []) }
         ensures engines { IfOk result (IsNewSet default_settings) }
         ensures memory { IsOkUnless result SearchError.Memory }
     {
@@ -109,16 +119,20 @@ impl RegexSet {
 
     /// Makes the engines for the NFA, with these settings and empty caches. The only error is `Memory`.
     fn from_parts(alloc: Global, nfa: NFA, config: Config) -> Result<RegexSet, SearchError>
-        ensures nfa { IfOk result (λ made. made.nfa ≡ nfa) }
+        ensures nfa { IfOk result (λ made. made.engine.nfa ≡ nfa) }
+        ensures texts { IfOk result (λ made. made.texts ≡ []) }
         ensures engines { IfOk result (IsNewSet config) }
         ensures memory { IsOkUnless result SearchError.Memory }
     {
         let hybrid = Hybrid::new(alloc, nfa, config.lazy_dfa(MatchKind::All))?;
-        Ok(RegexSet { hybrid })
+        Ok(RegexSet {
+            hybrid,
+            texts: Texts::none(alloc),
+        })
     }
 
-    /// Returns a set for the same NFA with the same settings and empty caches, for instance for another thread. The only
-    /// error is `Memory`.
+    /// Returns a set for the same NFA with the same settings and texts and empty caches, for instance for another
+    /// thread. The only error is `Memory`.
     ///
     /// ```
     /// // set of ["foo", "[0-9]+"]
@@ -126,15 +140,19 @@ impl RegexSet {
     /// assert!(rt; copy.is_match(Input::new(b"a 12")));
     /// ```
     pub fn clone(&self, alloc: Global) -> Result<RegexSet, SearchError>
-        ensures nfa { IfOk result (λ made. made.nfa ≡ self.now.nfa) }
-        ensures config { IfOk result (λ made. made.config ≡ self.now.config) }
+        ensures nfa { IfOk result (λ made. made.engine.nfa ≡ self.now.engine.nfa) }
+        ensures config { IfOk result (λ made. made.engine.config ≡ self.now.engine.config) }
+        ensures texts { IfOk result (λ made. made.texts ≡ self.now.texts) }
         ensures memory { IsOkUnless result SearchError.Memory }
     {
         let Ok(nfa) = self.get_nfa().clone() else {
             return Err(SearchError::Memory);
         };
+        let Ok(texts) = self.texts.clone(alloc) else {
+            return Err(SearchError::Memory);
+        };
         let hybrid = Hybrid::new(alloc, nfa, self.hybrid.get_config())?;
-        Ok(RegexSet { hybrid })
+        Ok(RegexSet { hybrid, texts })
     }
 
     /// Returns the number of patterns.
@@ -144,7 +162,7 @@ impl RegexSet {
     /// assert_eq!(rt; set.len(), 2);
     /// ```
     pub fn len(&self) -> usize
-        ensures { result ≡ length self.now.nfa.patterns }
+        ensures { result ≡ length self.now.engine.nfa.patterns }
     {
         self.hybrid.pattern_len()
     }
@@ -156,7 +174,7 @@ impl RegexSet {
     /// assert!(rt; set.is_empty());
     /// ```
     pub fn is_empty(&self) -> bool
-        ensures { IsTrue result ↔ (length self.now.nfa.patterns ≡ 0) }
+        ensures { IsTrue result ↔ (length self.now.engine.nfa.patterns ≡ 0) }
     {
         self.len() == 0
     }
@@ -168,7 +186,7 @@ impl RegexSet {
     /// assert_eq!(rt; set.get_nfa().pattern_len(), 2);
     /// ```
     pub fn get_nfa(&self) -> &NFA
-        ensures { result.now ≡ self.now.nfa }
+        ensures { result.now ≡ self.now.engine.nfa }
     {
         self.hybrid.get_nfa()
     }
@@ -183,7 +201,7 @@ impl RegexSet {
     /// assert!(rt; set.memory_usage() > before);
     /// ```
     pub fn memory_usage(&self) -> usize
-        ensures usage { result ≡ bytes_of self.now }
+        ensures usage { result ≡ bytes_of self.now.engine }
     {
         self.hybrid.memory_usage()
     }
@@ -196,9 +214,10 @@ impl RegexSet {
     /// assert!(rt; !set.is_match(Input::new(b"bar")));
     /// ```
     pub fn is_match<'h>(&mut self, input: Input<'h>) -> bool
-        ensures answer { IsBoolAnswer self.old.nfa All false (search_of input.entry) result }
-        ensures runs { RunsInTurn (search_of input.entry) (not (is_utf8_empty self.old.nfa)) self.old self.new }
-        ensures keeps { KeepsHybrid self.old self.new }
+        ensures answer { IsBoolAnswer self.old.engine.nfa All false (search_of input.entry) result }
+        ensures runs { RunsInTurn (search_of input.entry) (not (is_utf8_empty self.old.engine.nfa)) self.old.engine
+            self.new.engine }
+        ensures keeps { KeepsSet self.old self.new }
     {
         self.hybrid.is_match(input)
     }
@@ -218,11 +237,12 @@ impl RegexSet {
     /// ```
     pub fn matches(&mut self, alloc: Global, input: &Input<'_>) -> Result<SetMatches, SearchError>
         ensures matches { let x = search_of input.now in
-            IfOk result (IsOverlapResult self.old.nfa x All x.earliest (no_pattern self.old.nfa)) }
+            IfOk result (IsOverlapResult self.old.engine.nfa x All x.earliest (no_pattern self.old.engine.nfa)) }
         ensures memory { IsOkUnless result SearchError.Memory }
         ensures runs { OnOk result
-            (SetRunsInTurn (search_of input.now) (no_pattern self.old.nfa) self.old self.new) }
-        ensures keeps { KeepsHybrid self.old self.new }
+            (SetRunsInTurn (search_of input.now) (no_pattern self.old.engine.nfa) self.old.engine
+            self.new.engine) }
+        ensures keeps { KeepsSet self.old self.new }
     {
         let Ok(patterns) = PatternSet::new(alloc, self.len()) else {
             return Err(SearchError::Memory);
@@ -242,10 +262,10 @@ impl RegexSet {
     /// assert_eq!(rt; patterns.len(), 1);
     /// ```
     pub fn which_overlapping_matches(&mut self, input: &Input<'_>, patterns: &mut PatternSet)
-        ensures result { IsOverlapResult self.old.nfa (search_of input.now) All
+        ensures result { IsOverlapResult self.old.engine.nfa (search_of input.now) All
             (search_of input.now).earliest patterns.old patterns.new }
-        ensures runs { SetRunsInTurn (search_of input.now) patterns.old self.old self.new }
-        ensures keeps { KeepsHybrid self.old self.new }
+        ensures runs { SetRunsInTurn (search_of input.now) patterns.old self.old.engine self.new.engine }
+        ensures keeps { KeepsSet self.old self.new }
     {
         self.hybrid.which_overlapping_matches(input, patterns);
     }
