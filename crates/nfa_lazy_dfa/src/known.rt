@@ -347,8 +347,8 @@ pub fn run(dfa: &DFA, cache: &Cache, input: &Input<'_>, from: Place) -> Place
     Place { at, row, found }
 }
 
-/// Goes on as [`run`], one byte at a time. It is faster if rows with a match and others take turns, as where characters of
-/// several bytes match.
+/// Goes on as [`run`], one byte at a time. It is faster if rows with a match and others take turns, as where characters
+/// of several bytes match.
 #[inline(always)]
 pub fn run_by_byte(dfa: &DFA, cache: &Cache, input: &Input<'_>, from: Place) -> Place
     requires own { IsFor cache.now dfa.now }

@@ -77,9 +77,9 @@ pub struct Regex {
     records_spans: bool,
     /// What each match begins with.
     literals: Literals,
-    /// The last match was at the first start of its search, so the next one may be, too.
+    /// One of the last matches was at the first start of its search, so the next one may be, too.
     matched_at_first: bool,
-    /// How many matches were not at the first start, since one that was found there over known cells.
+    /// How many of the last matches were elsewhere.
     misses: u8,
     /// The last match that a window had was where the literals said that it may start, further on than its search.
     matched_at_literal: bool,
@@ -317,15 +317,15 @@ impl Regex {
 
     /// Returns the match that a search of the input finds, in byte offsets into the haystack.
     ///
-    /// If one of the last matches was at the first start of its search, or the last one where the literals of the NFA
-    /// said, the lazy DFA tries that start of this one, over the rows that it has. If it does not match there, the DFA
-    /// scans on to the first end of a match, from where the literals say that a match may start, and tries the first
-    /// starts after the last position at which no match had begun. If it matches at none of them, it finds the end of
-    /// the match, and the [`Choice`] searches the window between the two. So the work of the slower engines depends on
-    /// the window, and not on the haystack. There is no window if the search is anchored or `earliest`, or if the NFA
-    /// is anchored. The DFA alone then answers an anchored search. The [`Choice`] searches the whole input otherwise,
-    /// and if the DFA stops. It also does if the NFA can match the empty string and is in UTF-8 mode, and the match
-    /// starts at none of the first starts.
+    /// If one of the last matches was at the first start of its search, or where the literals of the NFA said, the lazy
+    /// DFA tries that start of this one, over the rows that it has. If it does not match there, the DFA scans on to the
+    /// first end of a match, from where the literals say that a match may start, and tries the first starts after the
+    /// last position at which no match had begun. If it matches at none of them, it finds the end of the match, and the
+    /// [`Choice`] searches the window between the two. So the work of the slower engines depends on the window, and not
+    /// on the haystack. There is no window if the search is anchored or `earliest`, or if the NFA is anchored. The DFA
+    /// alone then answers an anchored search. The [`Choice`] searches the whole input otherwise, and if the DFA stops.
+    /// It also does if the NFA can match the empty string and is in UTF-8 mode, and the match starts at none of the
+    /// first starts.
     ///
     /// ```
     /// // regex of "foo[0-9]+"

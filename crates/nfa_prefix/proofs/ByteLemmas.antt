@@ -1,7 +1,7 @@
 -- One byte occurs where it is.
 use Rattle.std.proofs.lemmas.Bool.{eqb-true}
 use Rattle.memchr.specs.Find.{FindsNeedle, IsFirstByte, OccursAt, Passes, is_byte}
-use Rattle.nfa_paths.proofs.Common.{◌≡◌, ◌∙◌, ◌==◌, ℕ, zero, suc, ◌+◌, ◌<◌, ◌≤◌, List, [], ◌∷◌, Option, None, Some, Bool, true, arith, ap, length, refl, sym, subst}
+use Rattle.nfa_paths.proofs.Common.{◌≡◌, ◌∙◌, ◌==◌, ℕ, zero, suc, ◌+◌, ◌<◌, ◌≤◌, List, [], ◌∷◌, Option, None, Some, true, arith, ap, length}
 use Rattle.std.specs.Prelude.{slice_index}
 
 module _ (part : List ℕ) (b : ℕ) where
