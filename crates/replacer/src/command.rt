@@ -9,6 +9,9 @@ pub const USAGE: &str =
     "usage: replacer [OPTIONS] replace PATTERN TEMPLATE [FILE..] | split PATTERN [FILE..] | \
 splitn PATTERN LIMIT [FILE..]";
 
+/// What `--version` prints.
+pub const VERSION: &str = "replacer 0.1.0";
+
 /// The options that have a value, which is the next word.
 const VALUED: &[&str] = &["-n", "-e"];
 
@@ -35,11 +38,13 @@ Options:
          the old file stays under NAME and SUFFIX; if there is such a file, that is an error. After an error the old
          file is as it was, and the new one is removed. Times, access lists and other attributes are not kept, and
          other hard links stay links to the old file. A symbolic link stays, and the file to which it leads is replaced.
---help   prints this, and nothing else.
+-h, --help  prints this, and nothing else.
+--version   prints the name and the version of the program.
 
-Status: 0 if the output was written, 1 if a file cannot be read, the output cannot be written or there is no memory,
-2 if the arguments, the pattern or the template are wrong, or a file that is read is also the output. No file is
-touched then. If the output is a pipe that is closed, the program ends with status 0.
+Status: 0 if the output was written, whether or not the pattern matched, and 2 after an error: if the arguments, the
+pattern or the template are wrong or a file that is read is also the output, and then no file is touched; if a file
+cannot be read, the output cannot be written or there is no memory. If nobody reads the output any more, the
+program ends silently with status 141.
 
 Examples:
 replacer replace '(?<year>[0-9]+)-(?<month>[0-9]+)' '$month.$year' dates
@@ -100,6 +105,8 @@ pub struct Arguments<'w> {
 pub enum Asked<'w> {
     /// Print the help.
     Help,
+    /// Print the version.
+    Version,
     /// Replace, or print fields.
     Work(Arguments<'w>),
 }
@@ -161,6 +168,7 @@ impl<'w> From<NotText<'w>> for Misuse<'w> {
 #[derive(Clone, Copy)]
 struct Options<'w> {
     help: bool,
+    version: bool,
     pattern: Option<&'w str>,
     fixed: bool,
     ignore_case: bool,
@@ -177,6 +185,7 @@ pub fn parse<'w>(
     let parted = part_words(alloc, VALUED, words)?;
     match options_of(&parted.options) {
         Ok(options) if options.help => Ok(Ok(Asked::Help)),
+        Ok(options) if options.version => Ok(Ok(Asked::Version)),
         Ok(options) => work_of(alloc, options, &parted.operands),
         Err(misuse) => Ok(Err(misuse)),
     }
@@ -228,6 +237,7 @@ enum Next {
 fn options_of<'w>(words: &[Word<'w>]) -> Result<Options<'w>, Misuse<'w>> {
     let mut options = Options {
         help: false,
+        version: false,
         pattern: None,
         fixed: false,
         ignore_case: false,
@@ -264,7 +274,8 @@ fn read_option<'w>(
 /// Reads the name of an option, and returns what comes after it.
 fn read_name<'w>(options: &mut Options<'w>, word: &'w str) -> Result<Next, Misuse<'w>> {
     match word {
-        "--help" => options.help = true,
+        "-h" | "--help" => options.help = true,
+        "--version" => options.version = true,
         "-F" => options.fixed = true,
         "-i" => options.ignore_case = true,
         "--whole" => options.whole = true,

@@ -15,11 +15,11 @@ mod pattern;
 mod replace;
 mod shown;
 
-use crate::command::{Arguments, Asked, Command, HELP, Misuse, Target, USAGE, parse};
+use crate::command::{Arguments, Asked, Command, HELP, Target, USAGE, VERSION, parse};
 use crate::files::print_files;
 use crate::hint::{HINT, has_foreign};
 use crate::in_place::replace_files;
-use crate::job::{Job, Mistake};
+use crate::job::Job;
 use anyhow::Result;
 use option_values::output::{IS_OUTPUT, first_output, shown_name};
 use option_values::words::{arguments, words};
@@ -28,11 +28,11 @@ use std::io::ErrorKind;
 use std::process::ExitCode;
 use text_lines::failure::Failure;
 
-/// The input, the output or memory failed.
-const FAILED: u8 = 1;
+/// The arguments, the pattern or the template are wrong, or an input, the output or memory failed.
+const FAILED: u8 = 2;
 
-/// The arguments are not those of a command, or the pattern or the template cannot be read.
-const MISUSED: u8 = 2;
+/// Nobody reads the output any more: the status that a shell has of a program which the signal for that ends.
+const CLOSED: u8 = 128 + 13;
 
 /// The names of the inputs if none is given.
 const STANDARD_INPUT: &[&str] = &["-"];
@@ -40,11 +40,7 @@ const STANDARD_INPUT: &[&str] = &["-"];
 fn main(rt: HostRuntime) -> ExitCode {
     match answer(&rt) {
         Ok(code) => code,
-        Err(error) => {
-            // The status says so even if the line cannot be written.
-            let _ = eprintln!(rt; "replacer: {error}");
-            ExitCode::from(FAILED)
-        }
+        Err(error) => failed(&rt, error),
     }
 }
 
@@ -52,24 +48,29 @@ fn answer(rt: &HostRuntime) -> Result<ExitCode> {
     let arguments = arguments(rt)?;
     let words = words(rt.alloc(), &arguments)?;
     match parse(rt.alloc(), &words)? {
-        Ok(Asked::Help) => help(rt),
+        Ok(Asked::Help) => say(rt, format_args!("{USAGE}\n{HELP}")),
+        Ok(Asked::Version) => say(rt, VERSION),
         Ok(Asked::Work(arguments)) => run(rt, &arguments),
-        Err(misuse) => Ok(confused(rt, misuse)),
+        Err(misuse) => {
+            let said = format_args!("{misuse}\n{USAGE}\nreplacer --help says more.");
+            Ok(failed(rt, said))
+        }
     }
 }
 
-fn help(rt: &HostRuntime) -> Result<ExitCode> {
-    match println!(rt; "{USAGE}\n{HELP}") {
-        Err(error) if error.kind() != ErrorKind::BrokenPipe => Err(error.into()),
-        _ => Ok(ExitCode::SUCCESS),
+/// Prints what the arguments ask for, if it is no text.
+fn say<T: Display + Drop>(rt: &HostRuntime, text: T) -> Result<ExitCode> {
+    match println!(rt; "{text}") {
+        Ok(()) => Ok(ExitCode::SUCCESS),
+        Err(error) if error.kind() == ErrorKind::BrokenPipe => Ok(ExitCode::from(CLOSED)),
+        Err(error) => Err(error.into()),
     }
 }
 
 fn run(rt: &HostRuntime, arguments: &Arguments<'_>) -> Result<ExitCode> {
     match Job::new(rt.alloc(), arguments.request) {
         Ok(mut job) => obey(rt, arguments, &mut job),
-        Err(Mistake::Memory) => Err(Mistake::Memory.into()),
-        Err(mistake) => Ok(misused(rt, mistake)),
+        Err(mistake) => Ok(failed(rt, mistake)),
     }
 }
 
@@ -81,7 +82,7 @@ fn obey(rt: &HostRuntime, arguments: &Arguments<'_>, job: &mut Job<'_>) -> Resul
         Target::Output => {
             if let Some(name) = first_output(rt, names) {
                 let shown = shown_name(name);
-                return Ok(misused(rt, format_args!("replacer: {shown}: {IS_OUTPUT}")));
+                return Ok(failed(rt, format_args!("{shown}: {IS_OUTPUT}")));
             }
             status_after(print_files(rt, job, names))
         }
@@ -104,7 +105,7 @@ fn status_after(done: Result<bool, Failure>) -> Result<ExitCode> {
     match done {
         Ok(false) => Ok(ExitCode::SUCCESS),
         Ok(true) => Ok(ExitCode::from(FAILED)),
-        Err(error) if is_closed_pipe(&error) => Ok(ExitCode::SUCCESS),
+        Err(error) if is_closed_pipe(&error) => Ok(ExitCode::from(CLOSED)),
         Err(error) => Err(error.into()),
     }
 }
@@ -126,14 +127,8 @@ fn is_closed_pipe(error: &Failure) -> bool {
     }
 }
 
-// The status says so even if the lines cannot be written.
-fn confused(rt: &HostRuntime, misuse: Misuse<'_>) -> ExitCode {
-    let _ = eprintln!(rt; "replacer: {misuse}\n{USAGE}\nreplacer --help says more.");
-    ExitCode::from(MISUSED)
-}
-
 // The status says so even if the line cannot be written.
-fn misused<T: Display + Drop>(rt: &HostRuntime, why: T) -> ExitCode {
-    let _ = eprintln!(rt; "{why}");
-    ExitCode::from(MISUSED)
+fn failed<T: Display + Drop>(rt: &HostRuntime, why: T) -> ExitCode {
+    let _ = eprintln!(rt; "replacer: {why}");
+    ExitCode::from(FAILED)
 }
