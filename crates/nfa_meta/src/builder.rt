@@ -306,7 +306,10 @@ impl Builder {
         ensures why { IfErr result (IsWhyNotBuilt self.now (map (λ text. text.now) patterns.now)) }
     {
         let nfa = self.compiler().build_many(alloc, patterns)?;
-        self.build_with_texts(alloc, nfa, patterns)
+        match self.build_with_texts(alloc, nfa, patterns) {
+            Ok(regex) => Ok(regex),
+            Err(_) => Err(BuildError::Memory),
+        }
     }
 
     /// Makes a regex of the NFA of these patterns, and copies their texts. The only error is `Memory`.
@@ -315,19 +318,17 @@ impl Builder {
         alloc: Global,
         nfa: NFA,
         patterns: &[&str],
-    ) -> Result<Regex, BuildError>
+    ) -> Result<Regex, SearchError>
         ensures made { IfOk result (λ made. made ≡ record (regex_of nfa self.now.config) {
           texts = map (λ text. text.now) patterns.now;
         }) }
-        ensures memory { IsOkUnless result BuildError.Memory }
+        ensures memory { IsOkUnless result SearchError.Memory }
     {
         let Ok(texts) = Texts::of(alloc, patterns) else {
-            return Err(BuildError::Memory);
+            return Err(SearchError::Memory);
         };
-        match self.build_from_nfa(alloc, nfa) {
-            Ok(regex) => Ok(regex.with_texts(texts)),
-            Err(_) => Err(BuildError::Memory),
-        }
+        let regex = self.build_from_nfa(alloc, nfa)?;
+        Ok(regex.with_texts(texts))
     }
 
     /// Makes a regex of the NFA, with empty caches. Settings of the NFA have no effect. The only error is `Memory`.
