@@ -12,7 +12,6 @@ use thompson_nfa::{NFA, State};
 
 /// Returns the number of groups that each match sets, if there is one pattern and each match sets all of its groups, as far
 /// as the states show it. The only error is that allocation failed.
-#[tactic(auto, using(crate::proofs::AlwaysSetLemmas::sets_groups))]
 pub(super) fn groups_always_set(alloc: Global, nfa: &NFA) -> Result<Option<usize>, AllocError>
     ensures { IfOk result (λ found. IfSome found (SetsGroups nfa.now)) }
 {
