@@ -10,9 +10,8 @@ use regex_search_core::{PatternID, StateID};
 use std::alloc::{AllocError, Global};
 use thompson_nfa::{NFA, State};
 
-/// Returns the number of groups that each match sets, if there is one pattern and each match sets all of its groups, as far
-/// as the states show it. The only error is that allocation failed.
-#[tactic(auto, using(crate::proofs::AlwaysSetLemmas::sets_groups))]
+/// Returns the number of groups that each match sets, if there is one pattern and each match sets all of its groups, as
+/// far as the states show it. The only error is that allocation failed.
 pub(super) fn groups_always_set(alloc: Global, nfa: &NFA) -> Result<Option<usize>, AllocError>
     ensures { IfOk result (λ found. IfSome found (SetsGroups nfa.now)) }
 {
@@ -31,8 +30,8 @@ pub(super) fn groups_always_set(alloc: Global, nfa: &NFA) -> Result<Option<usize
 /// Returns whether each way from a start of a search to a `Match` writes the slot, as far as the states show it: each
 /// byte is assumed to be in some haystack, and each assertion to hold. The only error is that allocation failed.
 ///
-/// It marks the states that ways lead to on which nothing wrote the slot, and then tests that these are all, and that no
-/// `Match` is among them.
+/// It marks the states that ways lead to on which nothing wrote the slot, and then tests that these are all, and that
+/// no `Match` is among them.
 fn is_always_written(alloc: Global, nfa: &NFA, slot: usize) -> Result<bool, AllocError>
     requires { length nfa.now.patterns ≡ 1 }
     ensures { IfOk result (λ always. IsTrue always → AlwaysWrites nfa.now slot) }
