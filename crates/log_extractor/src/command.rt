@@ -12,6 +12,9 @@ use std::alloc::{AllocError, Global};
 /// How the program is called.
 const USAGE: &str = "log_extractor [OPTIONS] [FILE]..";
 
+/// What `--version` prints after the name of the program.
+const VERSION: &str = "0.1.0";
+
 /// The names of formats.
 const FORMATS: &[&str] = &["syslog", "combined"];
 
@@ -36,9 +39,9 @@ Examples:
   log_extractor --format combined --count status access.log
   log_extractor --csv -p '(?<user>[a-z]+): (?<said>.*)' < chat.log
 
-Status: 0, 1 if an input cannot be read, the output cannot be written or memory runs out, 2 if the arguments or the
-pattern are wrong, or a file that is read is also the output. If the output is a pipe that is closed, the program ends
-with status 0.
+Status: 0, 1 if no line has a row and rows are asked for, 2 if an input cannot be read, the output cannot be written or
+memory runs out, the arguments or the pattern are wrong, or a file that is read is also the output. If nobody
+reads the output any more, the program ends silently with status 141.
 
 The default pattern is of lines such as `2026-11-22 14:03:07 ERROR disk full`. The patterns of the formats:";
 
@@ -97,6 +100,7 @@ pub fn parse<'w>(alloc: Global, below: &'w str, words: &'w [&'w str]) -> Result<
     push_arguments(alloc, &mut args)?;
     let command = clap::Command::new(alloc, "log_extractor")
         .about("Prints the fields of log lines.")
+        .version(VERSION)
         .override_usage(USAGE)
         .after_help(below)
         .args(args)?;

@@ -28,6 +28,17 @@ struct Work {
     rows: bool,
 }
 
+/// What was printed of the inputs.
+#[derive(Clone, Copy)]
+pub enum Printed {
+    /// All that was asked for.
+    All,
+    /// All, but no line has a row, and rows were asked for.
+    NoRow,
+    /// Not all: an input was not read to its end.
+    Part,
+}
+
 /// Returns the names of the inputs.
 pub fn inputs_of<'a, 'w>(arguments: &'a Arguments<'w>) -> &'a [&'w str] {
     if arguments.files.is_empty() {
@@ -38,7 +49,7 @@ pub fn inputs_of<'a, 'w>(arguments: &'a Arguments<'w>) -> &'a [&'w str] {
 }
 
 /// Prints what is to be printed of the files that the arguments name, in order, or of standard input if there are none.
-/// Returns whether each was read to its end. If a column is given, its values are counted, and the counts are printed.
+/// If a column is given, its values are counted, and the counts are printed.
 ///
 /// A file that cannot be read, or that has a line for which there is no memory, is named on standard error, and the
 /// next one is read. The error is one of the output, or of memory.
@@ -47,7 +58,7 @@ pub fn print_all(
     parsers: &mut Parsers<'_>,
     arguments: &Arguments<'_>,
     column: Option<usize>,
-) -> Result<bool, Failure> {
+) -> Result<Printed, Failure> {
     if arguments.line_buffered || rt.stdout().is_terminal() {
         // The output for a line is written by one call.
         return print_to(rt, parsers, arguments, column, &mut io::writer(rt));
@@ -55,9 +66,9 @@ pub fn print_all(
     let Ok(mut out) = BufWriter::new(rt.alloc(), io::writer(rt)) else {
         return Err(Failure::Memory);
     };
-    let complete = print_to(rt, parsers, arguments, column, &mut out)?;
+    let printed = print_to(rt, parsers, arguments, column, &mut out)?;
     match out.flush() {
-        Ok(()) => Ok(complete),
+        Ok(()) => Ok(printed),
         Err(error) => Err(Failure::Write(error)),
     }
 }
@@ -69,7 +80,7 @@ fn print_to<W: Write>(
     arguments: &Arguments<'_>,
     column: Option<usize>,
     out: &mut W,
-) -> Result<bool, Failure> {
+) -> Result<Printed, Failure> {
     let output = arguments.output;
     if column.is_none() {
         print_head(rt.alloc(), parsers, output, out)?;
@@ -84,10 +95,20 @@ fn print_to<W: Write>(
     if let Some(name) = arguments.count {
         print_counted(rt, output, name, &work.counts, out)?;
     }
-    if complete && !work.rows && !matches!(output, Output::Rejects) {
-        let _ = eprintln!(rt; "{NO_ROW}");
+    Ok(printed_if(rt, complete, work.rows || matches!(output, Output::Rejects)))
+}
+
+/// Returns what was printed, by whether each input was read to its end, and whether what was asked for was found. Says
+/// so if no line has a row.
+fn printed_if(rt: &HostRuntime, complete: bool, found: bool) -> Printed {
+    if !complete {
+        return Printed::Part;
     }
-    Ok(complete)
+    if found {
+        return Printed::All;
+    }
+    let _ = eprintln!(rt; "{NO_ROW}");
+    Printed::NoRow
 }
 
 /// Prints the counts of the values of the column of this name.

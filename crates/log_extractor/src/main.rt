@@ -16,7 +16,7 @@ mod row;
 
 use crate::command::{Arguments, Command, Given, help_below, labels_of, parse, split};
 use crate::count::column_named;
-use crate::files::{inputs_of, print_all};
+use crate::files::{Printed, inputs_of, print_all};
 use crate::names::has_name;
 use crate::parser::Parser;
 use crate::parsers::{LABEL, LabelledParser, Parsers};
@@ -32,11 +32,14 @@ use std::io;
 use std::process::ExitCode;
 use text_lines::failure::Failure;
 
-/// An input, the output or memory failed.
-const FAILED: u8 = 1;
+/// No line has a row.
+const NO_ROW: u8 = 1;
 
-/// The arguments or the pattern are wrong.
-const MISUSED: u8 = 2;
+/// The arguments or a pattern are wrong, or an input, the output or memory failed.
+const FAILED: u8 = 2;
+
+/// Nobody reads the output any more: the status that a shell has of a program which the signal for that ends.
+const CLOSED: u8 = 128 + 13;
 
 /// What is wrong with a group of the name of the column of labels.
 const NAME_TAKEN: &str = "of several patterns none may have a group of the name pattern";
@@ -53,7 +56,7 @@ fn answer(rt: &HostRuntime) -> Result<ExitCode> {
     let words = words(rt.alloc(), &arguments)?;
     match texts(rt.alloc(), &words)? {
         Ok(words) => obey(rt, &words),
-        Err(error) => Ok(ended(rt, error, MISUSED)),
+        Err(error) => Ok(ended(rt, error, FAILED)),
     }
 }
 
@@ -70,17 +73,17 @@ fn obey(rt: &HostRuntime, words: &[&str]) -> Result<ExitCode> {
 /// Prints the help, or what is wrong with the arguments.
 fn say(rt: &HostRuntime, error: &Error) -> Result<ExitCode> {
     match error.print(rt) {
-        Err(failure) if failure.kind() != io::ErrorKind::BrokenPipe => Err(failure.into()),
-        _ => Ok(ExitCode::from(status_of(error))),
+        Ok(()) => Ok(ExitCode::from(status_of(error))),
+        Err(failure) if failure.kind() == io::ErrorKind::BrokenPipe => Ok(ExitCode::from(CLOSED)),
+        Err(failure) => Err(failure.into()),
     }
 }
 
 /// The status after an error of the arguments was printed.
 fn status_of(error: &Error) -> u8 {
     match error.kind() {
-        ErrorKind::DisplayHelp => 0,
-        ErrorKind::OutOfMemory => FAILED,
-        _ => MISUSED,
+        ErrorKind::DisplayHelp | ErrorKind::DisplayVersion => 0,
+        _ => FAILED,
     }
 }
 
@@ -89,8 +92,8 @@ fn extract(rt: &HostRuntime, arguments: &Arguments<'_>) -> Result<ExitCode> {
     match parsers_of(rt.alloc(), &arguments.patterns, &labels)? {
         Ok(mut parsers) => print_rows(rt, arguments, &mut parsers),
         Err((_, PatternError::Memory)) => Err(PatternError::Memory.into()),
-        Err((_, error)) if labels.len() == 1 => Ok(ended(rt, error, MISUSED)),
-        Err((label, error)) => Ok(ended(rt, format_args!("pattern {label}: {error}"), MISUSED)),
+        Err((_, error)) if labels.len() == 1 => Ok(ended(rt, error, FAILED)),
+        Err((label, error)) => Ok(ended(rt, format_args!("pattern {label}: {error}"), FAILED)),
     }
 }
 
@@ -117,12 +120,12 @@ fn print_rows(
     parsers: &mut Parsers<'_>,
 ) -> Result<ExitCode> {
     if has_label_twice(parsers.names()) {
-        return Ok(ended(rt, NAME_TAKEN, MISUSED));
+        return Ok(ended(rt, NAME_TAKEN, FAILED));
     }
     let column = match arguments.count {
         Some(name) => match column_named(parsers.names(), name) {
             Some(column) => Some(column),
-            None => return Ok(ended(rt, format_args!("no column has the name {name}"), MISUSED)),
+            None => return Ok(ended(rt, format_args!("no column has the name {name}"), FAILED)),
         },
         None => None,
     };
@@ -130,18 +133,19 @@ fn print_rows(
         return Ok(ended(
             rt,
             format_args!("{}: {IS_OUTPUT}", shown_name(name)),
-            MISUSED,
+            FAILED,
         ));
     }
     status_after(print_all(rt, parsers, arguments, column))
 }
 
-/// Returns the status after all was printed. Each input was read to its end, or not, or printing failed.
-fn status_after(printed: Result<bool, Failure>) -> Result<ExitCode> {
+/// Returns the status after all was printed, or printing failed.
+fn status_after(printed: Result<Printed, Failure>) -> Result<ExitCode> {
     match printed {
-        Ok(true) => Ok(ExitCode::SUCCESS),
-        Ok(false) => Ok(ExitCode::from(FAILED)),
-        Err(error) if is_closed_pipe(&error) => Ok(ExitCode::SUCCESS),
+        Ok(Printed::All) => Ok(ExitCode::SUCCESS),
+        Ok(Printed::NoRow) => Ok(ExitCode::from(NO_ROW)),
+        Ok(Printed::Part) => Ok(ExitCode::from(FAILED)),
+        Err(error) if is_closed_pipe(&error) => Ok(ExitCode::from(CLOSED)),
         Err(error) => Err(error.into()),
     }
 }
