@@ -1,5 +1,5 @@
-//! A regex beside a choice, and a set beside a choice of the kind `All`, over random patterns and texts. `notes/alike` runs
-//! more of them, from other seeds.
+//! A regex beside a choice, and a set beside a choice of the kind `All`, over random patterns and texts. `notes/alike`
+//! runs more of them, from other seeds.
 
 use crate::tests::written::{Chance, patterns_of, text_of};
 use nfa_choice::choose::Choice;

@@ -86,8 +86,8 @@ abbrev pub negation : List Letter → ℕ
 negation [] = 0
 negation (letter ∷ _) = if means letter 33 || means letter 94 then 1 else 0
 
--- The letters of a set of these that come after `!` or `^`, if a bracket ends it. The first one belongs to the set in any
--- case.
+-- The letters of a set of these that come after `!` or `^`, if a bracket ends it. The first one belongs to the set in
+-- any case.
 abbrev pub set_letters : List Letter → Option (List Letter)
 set_letters [] = None
 set_letters (letter ∷ letters) =
@@ -141,6 +141,7 @@ abbrev pub begins_with_included : List Rule → Bool
 begins_with_included [] = false
 begins_with_included (rule ∷ _) = rule.included
 
--- Whether these rules leave a name out: the last one that fits does, or if none fits, the first one says what is left in.
+-- Whether these rules leave a name out: the last one that fits does, or if none fits, the first one says what is left
+-- in.
 abbrev pub is_left_out : Bool → List Rule → List ℕ → Bool
 is_left_out named rules name = decided named (chars name) (begins_with_included rules) rules

@@ -69,8 +69,9 @@ enum Place {
     SetHyphen,
 }
 
-/// Returns whether the pattern has only what means the same in grep's basic syntax: characters, `.`, sets of characters, a
-/// star after one of these, `^` first, `$` last, and a backslash before a character that has a meaning in both.
+/// Returns whether the pattern has only what means the same in grep's basic syntax: characters, `.`, sets of
+/// characters, a star after one of these, `^` first, `$` last, and a backslash before a character that has a meaning
+/// in both.
 fn is_same_in_basic(pattern: &str) -> bool {
     let mut place = Place::Start;
     for byte in pattern.bytes() {

@@ -220,7 +220,8 @@ module _ (prefer : Prefer) (res : List Re) (text : List ℕ) where
   -- The texts of pieces are joined.
 
   piece-then : (at : ℕ) → at < length text → (tail : List ℕ) → tail ≡ drop (piece_there prefer res text at).end text
-      → slice_range text (piece_there prefer res text at).start (piece_there prefer res text at).end ++ tail ≡ drop at text
+      → slice_range text (piece_there prefer res text at).start (piece_there prefer res text at).end ++ tail
+      ≡ drop at text
   piece-then at less tail is =
       let lies = piece-lies at less in
       rw (lies.start, is) (sym (drop_split text at (piece_there prefer res text at).end (omega (arith, lies.after))))
@@ -266,7 +267,8 @@ module _ (prefer : Prefer) (res : List Re) (text : List ℕ) where
   all-from (suc n) at = elim (cases_lt at (length text)) [
     | inl less ↦
         rw (lt-ltb at (length text) less)
-        (All-cons (IsPiece prefer res text) (piece_there prefer res text at) (pieces_at n (piece_there prefer res text at).end)
+        (All-cons (IsPiece prefer res text) (piece_there prefer res text at)
+        (pieces_at n (piece_there prefer res text at).end)
         (piece-lies at less).is (all-from n (piece_there prefer res text at).end))
     | inr more ↦ rw (le-ltb at (length text) more) (λ k d inside. absurd (omega (arith, inside)))
   ]

@@ -70,7 +70,8 @@ module _ (style : Style) (rules : List Rule) (res : List Re) (text : List ℕ) (
   pub printed-all : (whole : Bool) (out : Option (List ℕ)) (so-far : Printed (length text) whole out)
       → recovered style.prefer res text ≡ so-far.pieces
   printed-all whole out so-far =
-      so-far.goes_on ∙ ap (λ ps. so-far.pieces ++ ps) (pieces-none style.prefer res text so-far.left) ∙ append-nil so-far.pieces
+      so-far.goes_on ∙ ap (λ ps. so-far.pieces ++ ps) (pieces-none style.prefer res text so-far.left)
+      ∙ append-nil so-far.pieces
 
   pub pieces-printed : (whole : Bool) (out : Option (List ℕ)) → Printed (length text) whole out
       → Appends before out (piece_lines style rules text (recovered style.prefer res text))

@@ -82,8 +82,8 @@ module _ (res : List Re) (text : List ℕ) where
   abbrev pub longest_there : ℕ → Option Found
   longest_there at = longest_of (own_token at) (length res)
 
--- what the longest of the tokens of the first n rules is: that of a rule; no rule has a longer one, and no rule before it
--- has one that is as long. If there is none, no rule has one.
+-- what the longest of the tokens of the first n rules is: that of a rule; no rule has a longer one, and no rule before
+-- it has one that is as long. If there is none, no rule has one.
 abbrev pub IsLongestOf : (ℕ → Option Found) → ℕ → Option Found → Type 0
 IsLongestOf own n None = (k : ℕ) → k < n → own k ≡ None
 IsLongestOf own n (Some m) = (m.pattern < n) × (own m.pattern ≡ Some m)

@@ -96,8 +96,8 @@ pub fn pieces_are_the_text()
     ensures longest { PiecesAreLongest }
 {}
 
-/// The longest token at a place is that of some rule. No rule has a longer one there, and no rule before it has one that
-/// is as long.
+/// The longest token at a place is that of some rule. No rule has a longer one there, and no rule before it has one
+/// that is as long.
 pub fn tokens_are_longest()
     ensures { TokensAreLongest }
 {}
@@ -197,9 +197,9 @@ impl<'r> Lexer<'r> {
 
     /// Returns the token at this place.
     ///
-    /// By [`Prefer::First`] it is that of the first rule that matches there, as long as that rule prefers. There is none
-    /// if that rule prefers the empty string, even if a later one matches more. By [`Prefer::Longest`] it is the longest
-    /// of the tokens that the rules prefer.
+    /// By [`Prefer::First`] it is that of the first rule that matches there, as long as that rule prefers. There is
+    /// none if that rule prefers the empty string, even if a later one matches more. By [`Prefer::Longest`] it is the
+    /// longest of the tokens that the rules prefer.
     pub fn token_at(&mut self, text: &[u8], at: usize, prefer: Prefer) -> Option<Token>
         requires { at ≤ length text.now }
         ensures token { (res : List Re) → AreMeant byte_syntax self.old res
@@ -262,7 +262,8 @@ fn nth_pattern(number: usize, count: usize) -> PatternID
 
 /// Returns the longer of two tokens that start at one place; the first, if it is as long.
 fn longer(first: Option<Token>, second: Option<Token>) -> Option<Token>
-    ensures longer { option_map token_found result ≡ longer (option_map token_found first) (option_map token_found second) }
+    ensures longer { option_map token_found result
+        ≡ longer (option_map token_found first) (option_map token_found second) }
     ensures one { (result ≡ first) ⊎ (result ≡ second) }
 {
     let Some(token) = first else {

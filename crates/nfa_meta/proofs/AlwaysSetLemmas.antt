@@ -19,7 +19,8 @@ module _ (nfa : Automaton) (slot : ℕ) (marks : List Bool) (unwritten : AreUnwr
       elim (unwritten.leads v.0 marked) [
         | inl writes ↦ grind arith
         | inr on ↦
-            let of = In-mapped (λ s. (s, position_after (node_at nfa v.0) v.1)) y (targets (node_at nfa v.0)) linked.0 in
+            let of =
+            In-mapped (λ s. (s, position_after (node_at nfa v.0) v.1)) y (targets (node_at nfa v.0)) linked.0 in
             let later = marked-writes rest y end (grind (arith, on.1 of.0 of.1)) linked.1 ends matches in
             grind (arith, later)
       ]
@@ -65,7 +66,8 @@ module _ (nfa : Automaton) (kind : MatchKind) (earliest : Bool) (x : Search) (sl
   unfolding slot_row
   row-has count restarts None h pattern is within = cc
   row-has count restarts (Some p) h pattern is within =
-      rw (get_or-map-range_with_len (slot_among nfa p) 0 count slot slot None within (omega arith)) (answer-writes restarts p h)
+      rw (get_or-map-range_with_len (slot_among nfa p) 0 count slot slot None within (omega arith))
+      (answer-writes restarts p h)
 
   -- so an answer with a match has an offset in the slot, if it has the slot
   pub answers-set : (pattern : ℕ) (slots : List (Option ℕ)) → IsAnswer nfa kind earliest x (Some pattern) slots
@@ -83,5 +85,6 @@ sets_groups nfa count one slots always =
       one = one;
       count = half;
       each = λ kind earliest x pattern row answer slot within less.
-          answers-set nfa kind earliest x slot (always slot (omega (arith, less, half, slots))) pattern row answer within;
+          answers-set nfa kind earliest x slot (always slot (omega (arith, less, half, slots))) pattern row answer
+          within;
     }

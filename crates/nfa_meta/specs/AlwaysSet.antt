@@ -17,8 +17,8 @@ abbrev pub LeadsToMarked : ℕ → List Bool → Node → Type 0
 LeadsToMarked slot marks node = (slot_of node ≡ Some slot)
     ⊎ ((pattern_of node ≡ None) × ((s : ℕ) → In s (targets node) → IsMarked marks s))
 
--- The marked states are those that searches start with, and what follows each of them that does not write the slot. None
--- of these is a Match.
+-- The marked states are those that searches start with, and what follows each of them that does not write the slot.
+-- None of these is a Match.
 pub record AreUnwritten (nfa : Automaton) (slot : ℕ) (marks : List Bool) : Type 0 where
   pub starts : (s : ℕ) → IsStart nfa s → IsMarked marks s
   pub leads : (s : ℕ) → IsMarked marks s → LeadsToMarked slot marks (node_at nfa s)

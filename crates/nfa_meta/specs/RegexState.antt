@@ -13,8 +13,8 @@ row_capacity c = if c.hybrid then c.hybrid_cache_capacity else 0
 abbrev pub step_capacity : Config → ℕ
 step_capacity c = if c.onepass then c.onepass_size_limit else 0
 
--- what its choice shows, the settings, the texts that it was built of, the bytes that the rows of the lazy DFA take, how
--- many of the DFA's searches stopped without an answer, and the bytes that sure steps take
+-- what its choice shows, the settings, the texts that it was built of, the bytes that the rows of the lazy DFA take,
+-- how many of the DFA's searches stopped without an answer, and the bytes that sure steps take
 pub record RegexState : Type 0 where
   pub choice : ChoiceState
   pub config : Config
@@ -35,8 +35,8 @@ bytes_of r = min (memory_of r.choice.back + pike_memory_of r.choice.pike + r.row
 abbrev pub HasRoom : RegexState → Type 0
 HasRoom r = (r.rows ≤ row_capacity r.config) × (r.steps ≤ step_capacity r.config)
 
--- What a search keeps: the engines of the choice, the settings and the texts. Rows and steps have room, if they had before, and
--- no stop is forgotten.
+-- What a search keeps: the engines of the choice, the settings and the texts. Rows and steps have room, if they had
+-- before, and no stop is forgotten.
 pub record KeepsRegex (old new : RegexState) : Type 0 where
   pub engines : KeepsEngines old.choice new.choice
   pub config : new.config ≡ old.config

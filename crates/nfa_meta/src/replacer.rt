@@ -102,8 +102,8 @@ impl Regex {
         })
     }
 
-    /// Returns the haystack with what the replacement appends in place of its first matches: at most `limit`, and all if
-    /// `limit` is 0. It stops searching at the limit. The only error is that allocation failed.
+    /// Returns the haystack with what the replacement appends in place of its first matches: at most `limit`, and all
+    /// if `limit` is 0. It stops searching at the limit. The only error is that allocation failed.
     ///
     /// ```
     /// // regex of "[0-9]+"

@@ -99,7 +99,8 @@ fn ask_set(patterns: &[String], hay: &str) {
     let (ours, theirs) = (nfa_engines::string::RegexSet::new(patterns), regex::RegexSet::new(patterns));
     if let (Ok(ours), Ok(theirs)) = (ours, theirs) {
         let (found, wanted) = (ours.matches(hay), theirs.matches(hay));
-        same(found.iter().collect::<Vec<_>>(), wanted.iter().collect(), || format!("matches of {patterns:?} in {hay:?}"));
+        let said = || format!("matches of {patterns:?} in {hay:?}");
+        same(found.iter().collect::<Vec<_>>(), wanted.iter().collect(), said);
     }
 }
 

@@ -7,8 +7,8 @@ use crate::regex::Regex;
 use std::fmt;
 
 impl Regex {
-    /// Returns the texts of its patterns, in the order of their numbers, as the builder was given them. A regex that was
-    /// made of an NFA has none.
+    /// Returns the texts of its patterns, in the order of their numbers, as the builder was given them. A regex that
+    /// was made of an NFA has none.
     ///
     /// ```
     /// let regex = Regex::new_many(alloc, &[r"\pL+", r"\d+"])?;

@@ -30,8 +30,8 @@ loop-at-preserved g c =
             c.shown_at-shown.ensures.text,
           ) at c.in_ok-write_token.ensures in
           printed-more report.style report.rules.now res report.text.now _ c.loop-at.at true _ c.loop-at.position _ _
-          c.loop-at-test.true (inv.printed res meant) (token-piece report.style.prefer res report.text.now c.loop-at.at _ is) inv.position
-          writes;
+          c.loop-at-test.true (inv.printed res meant)
+          (token-piece report.style.prefer res report.text.now c.loop-at.at _ is) inv.position writes;
       position = c.moved-position.ensures
           ∙ position-moved report.style.positions c.loop-at.position report.text.now c.loop-at.at
           c.in-Some.token.span.end

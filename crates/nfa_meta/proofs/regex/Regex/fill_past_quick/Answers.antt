@@ -20,7 +20,8 @@ returns-in-Err-Some-clause-answer c =
     answers.rows _ _ (subst (λ (b : Bool).
     IsAnswer r.nfa (kind_in r) b y c.search.new.captures.pattern c.search.new.captures.slots)
     (part-earliest r.nfa (search_of c.args.input.now) y part)
-    (rw (ap (λ (s : RegexState). s.choice) c.self.view_is ∙ c.match_past_quick.ensures.same) at c.search.ensures.answer))
+    (rw (ap (λ (s : RegexState). s.choice) c.self.view_is ∙ c.match_past_quick.ensures.same)
+    at c.search.ensures.answer))
 
 pub returns-in-Ok-clause-fills : goal.returns-in-Ok-clause-fills
 returns-in-Ok-clause-fills c =

@@ -10,7 +10,8 @@ returns-in-Some c =
     let states = c.states.result.now in
     let number = c.args.number in
     let state = c.in-Some.state.now in
-    let has : slice_get states number ≡ Some state = grind (arith, slice_get-get_or states number state, c.in-Some.ensures.lookup) in
+    let has : slice_get states number ≡ Some state =
+    grind (arith, slice_get-get_or states number state, c.in-Some.ensures.lookup) in
     let there : slice_get nfa.states number ≡ Some (node_of state) =
     ap (λ xs. slice_get xs number) (sym c.states.ensures.nodes)
     ∙ slice_get-map node_of states number
