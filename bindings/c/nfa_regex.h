@@ -154,7 +154,8 @@ int32_t nfa_regex_escape(const uint8_t *text, size_t len, uint8_t *pattern, size
 size_t nfa_regex_why(const uint8_t *pattern, size_t pattern_len, const nfa_options *options, uint8_t *message,
                      size_t room);
 
-/* Writes which bytes of the pattern are wrong. NFA_FOUND, or NFA_NONE if it can be compiled or they are not known. */
+/* Writes which bytes of the pattern are wrong: NFA_FOUND. NFA_NONE if it can be compiled. NFA_MEMORY, NFA_UTF8 or
+ * NFA_PATTERN if it cannot, and no bytes are known. */
 int32_t nfa_regex_place(const uint8_t *pattern, size_t pattern_len, const nfa_options *options, nfa_match *place);
 
 /* ---- Sets ---- */

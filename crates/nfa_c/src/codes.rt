@@ -46,7 +46,7 @@ pub enum Failure {
 /// Returns what an export returns for the failure.
 pub(crate) fn code(failure: &Failure) -> i32
     ensures code { result ≡ failure_code failure.now }
-    ensures failed { result ≢ pos 0 }
+    ensures failed { (result ≢ pos 0) × (result ≢ pos 1) }
 {
     match failure {
         Failure::Memory => MEMORY,
