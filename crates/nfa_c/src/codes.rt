@@ -32,6 +32,9 @@ pub const PATTERN: i32 = -5;
 /// is one of the inline functions of `nfa.h`.
 pub const TEMPLATE: i32 = -7;
 
+/// What is said if allocation failed.
+pub(crate) const NO_MEMORY: &str = "out of memory";
+
 /// The reason why no regex was made of a text.
 #[derive(Drop)]
 pub enum Failure {
