@@ -150,11 +150,12 @@ int32_t nfa_regex_replace_all(nfa_regex *re, const uint8_t *hay, size_t len, con
 int32_t nfa_regex_escape(const uint8_t *text, size_t len, uint8_t *pattern, size_t room, size_t *count);
 
 /* Writes why the pattern cannot be compiled, as far as there is room, with no zero at the end. Returns the length of
- * the whole message; 0 if the pattern can be compiled, or if memory is refused. */
+ * the whole message; 0 if the pattern can be compiled. */
 size_t nfa_regex_why(const uint8_t *pattern, size_t pattern_len, const nfa_options *options, uint8_t *message,
                      size_t room);
 
-/* Writes which bytes of the pattern are wrong. NFA_FOUND, or NFA_NONE if it can be compiled or they are not known. */
+/* Writes which bytes of the pattern are wrong: NFA_FOUND. NFA_NONE if it can be compiled. NFA_MEMORY, NFA_UTF8 or
+ * NFA_PATTERN if it cannot, and no bytes are known. */
 int32_t nfa_regex_place(const uint8_t *pattern, size_t pattern_len, const nfa_options *options, nfa_match *place);
 
 /* ---- Sets ---- */

@@ -77,6 +77,13 @@ pub record IsWritten (bytes : List ℕ) (count : ℕ) (old new : List ℕ) : Typ
   pub count_is : count ≡ length bytes
   pub bytes_are : new ≡ over bytes old
 
+-- the message says what the failure is, or that memory was refused for the words, and has `count` bytes
+pub record SaysFailure (f : Failure) (count : ℕ) (old new : List ℕ) : Type 0 where
+  pub cause : Failure
+  pub follows : (b : Builder) (text : List ℕ) → IsWhy b text f → IsWhy b text cause
+  pub count_is : count ≡ length (failure_text cause)
+  pub message : new ≡ over (failure_text cause) old
+
 -- the message says why no regex is made of the text, and has `count` bytes
 pub record TellsWhy (b : Builder) (text : List ℕ) (count : ℕ) (old new : List ℕ) : Type 0 where
   pub cause : Failure

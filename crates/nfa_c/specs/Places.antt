@@ -1,22 +1,25 @@
 -- The place of an error in the text of a pattern.
-use Rattle.std.specs.Prelude.{List, None, Option, Some, false, true, ℕ, ℤ, ◌≡◌}
+use Rattle.std.specs.Prelude.{List, None, Option, Some, [], true, ℕ, ℤ, ◌∷◌, ◌≡◌}
 use Rattle.regex_search_core.specs.Found.{Found}
 use Rattle.nfa_compiler.specs.declared.error.CompileError.{CompileError}
 use Rattle.nfa_compiler.specs.declared.error.CompileError.TheVariants.{Syntax}
 use Rattle.nfa_meta.specs.Built.{IsErrorOf}
 use Rattle.nfa_meta.specs.declared.builder.Builder.{Builder}
-use Rattle.nfa_c.specs.Answers.{found_in}
-use Rattle.nfa_c.specs.Codes.{code_of}
+use Rattle.nfa_c.specs.Answers.{IsMade, found_in}
+use Rattle.nfa_c.specs.Codes.{code_of, pattern_code}
+use Rattle.nfa_c.specs.Sets.{IsMadeSet}
+use Rattle.nfa_c.specs.declared.handle.Compiled.{Compiled}
 use Rattle.nfa_c.specs.declared.search.NfaMatch.{NfaMatch}
+use Rattle.nfa_c.specs.declared.set_handle.CompiledSet.{CompiledSet}
 
 -- the number of the pattern that is wrong, and where; none for an error of another kind
 abbrev pub place_of : CompileError → Option Found
 place_of (Syntax e) = Some (record { pattern = e.pattern; start = e.span.start; end = e.span.end })
 place_of _ = None
 
--- the code says whether there is a place, which was written, and else the old one stays
+-- the code says that there is a place, which was written, or else that of an error, and the old place stays
 abbrev pub WritesPlace : Option Found → ℤ → NfaMatch → NfaMatch → Type 0
-WritesPlace None code old new = (code ≡ code_of false) × (new ≡ old)
+WritesPlace None code old new = (code ≡ pattern_code) × (new ≡ old)
 WritesPlace (Some place) code old new = (code ≡ code_of true) × (found_in new ≡ place)
 
 -- the builder refuses these texts for what is at this place
@@ -24,3 +27,13 @@ pub record IsPlace (b : Builder) (texts : List (List ℕ)) (m : NfaMatch) : Type
   pub error : CompileError
   pub refused : IsErrorOf b texts error
   pub place_is : place_of error ≡ Some (found_in m)
+
+-- the builder makes a handle of the text
+pub record IsPattern (b : Builder) (text : List ℕ) : Type 0 where
+  pub own : Compiled
+  pub made : IsMade b (text ∷ []) own
+
+-- the builder makes a handle of a set of these texts
+pub record ArePatterns (b : Builder) (texts : List (List ℕ)) : Type 0 where
+  pub own : CompiledSet
+  pub made : IsMadeSet b texts own

@@ -52,6 +52,13 @@ IsWhyNoSet b text ends failure.Range = AreEnds text ends → ⊥
 IsWhyNoSet b text ends failure.Utf8 = AreUtf8 (texts_in text ends) → ⊥
 IsWhyNoSet b text ends (failure.Patterns error) = AreEnds text ends × IsErrorOf b (texts_in text ends) error
 
+-- the message says what the failure is, or that memory was refused for the words, and has `count` bytes
+pub record SaysSetFailure (f : SetFailure) (count : ℕ) (old new : List ℕ) : Type 0 where
+  pub cause : SetFailure
+  pub follows : (b : Builder) (text ends : List ℕ) → IsWhyNoSet b text ends f → IsWhyNoSet b text ends cause
+  pub count_is : count ≡ length (set_failure_text cause)
+  pub message : new ≡ over (set_failure_text cause) old
+
 module _ (b : Builder) (text ends : List ℕ) where
   -- the code says why no set is made of the texts
   pub record SaysWhyNoSet (code : ℤ) : Type 0 where

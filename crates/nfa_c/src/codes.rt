@@ -32,6 +32,9 @@ pub const PATTERN: i32 = -5;
 /// is one of the inline functions of `nfa.h`.
 pub const TEMPLATE: i32 = -7;
 
+/// What is said if allocation failed.
+pub(crate) const NO_MEMORY: &str = "out of memory";
+
 /// The reason why no regex was made of a text.
 #[derive(Drop)]
 pub enum Failure {
@@ -46,7 +49,7 @@ pub enum Failure {
 /// Returns what an export returns for the failure.
 pub(crate) fn code(failure: &Failure) -> i32
     ensures code { result ≡ failure_code failure.now }
-    ensures failed { result ≢ pos 0 }
+    ensures failed { (result ≢ pos 0) × (result ≢ pos 1) }
 {
     match failure {
         Failure::Memory => MEMORY,

@@ -1,18 +1,20 @@
 //! Where a text is not a pattern.
 ghost use Rattle.std.specs.Prelude.{[], pos, ◌∷◌, ◌≡◌, ◌≢◌};
+ghost use Rattle.nfa_c.specs.Codes.{SaysWhy};
 ghost use Rattle.nfa_c.specs.Options.{builder_in};
-ghost use Rattle.nfa_c.specs.Places.{IsPlace, WritesPlace, place_of};
+ghost use Rattle.nfa_c.specs.Places.{ArePatterns, IsPattern, IsPlace, WritesPlace, place_of};
+ghost use Rattle.nfa_c.specs.Sets.{SaysWhyNoSet};
 ghost use Rattle.nfa_c.specs.Texts.{texts_in};
 
-use crate::codes::{FOUND, Failure, NONE};
+use crate::codes::{FOUND, Failure, NONE, PATTERN, code};
 use crate::compile::build;
 use crate::options::{self, NfaOptions};
 use crate::search::NfaMatch;
-use crate::set_compile::{SetFailure, build_set};
+use crate::set_compile::{SetFailure, build_set, set_code};
 use nfa_meta::CompileError;
 use std::alloc::Global;
 
-/// Writes the place of the error, if it has one.
+/// Writes the place of the error, if it has one. Returns the code of an error otherwise.
 fn write_place(error: &CompileError, place: &mut NfaMatch) -> i32
     ensures { WritesPlace (place_of error.now) result place.old place.new }
 {
@@ -26,12 +28,12 @@ fn write_place(error: &CompileError, place: &mut NfaMatch) -> i32
             };
             FOUND
         }
-        _ => NONE,
+        _ => PATTERN,
     }
 }
 
 /// Compiles the pattern with these settings, and writes where it is wrong: the bytes of the text, and the pattern 0.
-/// Finds nothing if it can be compiled, is not UTF-8 or exceeds the size limit, or if memory is refused.
+/// Finds nothing if it can be compiled. Returns the code of the error if that has no place.
 #[unsafe(no_mangle)]
 pub extern "C" fn nfa_regex_place(
     alloc: Global,
@@ -40,11 +42,14 @@ pub extern "C" fn nfa_regex_place(
     place: &mut NfaMatch,
 ) -> i32
     ensures place { result ≡ pos 1 → IsPlace (builder_in options.now) (pattern.now ∷ []) place.new }
-    ensures stays { result ≢ pos 1 → (result ≡ pos 0) × (place.new ≡ place.old) }
+    ensures none { result ≡ pos 0 → IsPattern (builder_in options.now) pattern.now }
+    ensures why { result ≢ pos 1 → result ≢ pos 0 → SaysWhy (builder_in options.now) pattern.now result }
+    ensures stays { result ≢ pos 1 → place.new ≡ place.old }
 {
     match build(alloc, &options::builder(options), pattern) {
+        Ok(_) => NONE,
         Err(Failure::Pattern(error)) => write_place(&error, place),
-        _ => NONE,
+        Err(failure) => code(&failure),
     }
 }
 
@@ -58,10 +63,14 @@ pub extern "C" fn nfa_regex_set_place(
     place: &mut NfaMatch,
 ) -> i32
     ensures place { result ≡ pos 1 → IsPlace (builder_in options.now) (texts_in text.now ends.now) place.new }
-    ensures stays { result ≢ pos 1 → (result ≡ pos 0) × (place.new ≡ place.old) }
+    ensures none { result ≡ pos 0 → ArePatterns (builder_in options.now) (texts_in text.now ends.now) }
+    ensures why { result ≢ pos 1 → result ≢ pos 0 →
+        SaysWhyNoSet (builder_in options.now) text.now ends.now result }
+    ensures stays { result ≢ pos 1 → place.new ≡ place.old }
 {
     match build_set(alloc, &options::builder(options), text, ends) {
+        Ok(_) => NONE,
         Err(SetFailure::Patterns(error)) => write_place(&error, place),
-        _ => NONE,
+        Err(failure) => set_code(&failure),
     }
 }

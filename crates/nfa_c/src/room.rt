@@ -14,6 +14,14 @@ pub(crate) fn write_over(bytes: &[u8], room: &mut [u8])
     }
 }
 
+/// Writes the words over the first bytes, as far as there is room. Returns the length of the words.
+pub(crate) fn write_words(words: &str, room: &mut [u8]) -> usize
+    ensures { IsWritten words.now result room.old room.new }
+{
+    write_over(words.as_bytes(), room);
+    words.len()
+}
+
 /// Writes the bytes over the first ones, as far as there is room, and how many they are.
 pub(crate) fn write_counted(bytes: &[u8], room: &mut [u8], count: &mut usize)
     ensures { IsWritten bytes.now count.new room.old room.new }

@@ -26,9 +26,9 @@ pub enum SetFailure {
 }
 
 /// Returns what an export returns for the failure.
-fn set_code(failure: &SetFailure) -> i32
+pub(crate) fn set_code(failure: &SetFailure) -> i32
     ensures code { result ≡ set_failure_code failure.now }
-    ensures failed { result ≢ pos 0 }
+    ensures failed { (result ≢ pos 0) × (result ≢ pos 1) }
 {
     match failure {
         SetFailure::Memory => MEMORY,

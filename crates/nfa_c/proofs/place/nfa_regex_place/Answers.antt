@@ -1,0 +1,8 @@
+-- A pattern for which a handle is made is one.
+use Rattle.nfa_c.proofs.place.nfa_regex_place.Goals as goal
+
+pub returns-in-Ok-clause-none : goal.returns-in-Ok-clause-none
+returns-in-Ok-clause-none c = λ _. record {
+  own = c.in-Ok.field-0.value;
+  made = rw c.builder.ensures at c.in-Ok.ensures.made;
+}
