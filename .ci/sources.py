@@ -89,7 +89,7 @@ def paths():
     """The paths of all files, without what is built and without the crates of a user's own, in order."""
     found = []
     for folder, folders, names in os.walk(root):
-        folders[:] = [it for it in folders if it not in ('out', '.git', '__pycache__')]
+        folders[:] = [it for it in folders if it not in ('out', 'target', '.git', '__pycache__')]
         if pathlib.Path(folder) == root / 'crates':
             folders[:] = [it for it in folders if it not in own_crates()]
         found += [os.path.relpath(os.path.join(folder, name), root) for name in names]
