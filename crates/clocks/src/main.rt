@@ -1,8 +1,11 @@
-//! Searches standard input for a pattern over and over, to be timed: with one of our engines or with the crate regex.
+//! Searches standard input for a pattern over and over, to be timed: with one of our engines, with a lazy DFA or with
+//! the crate regex.
 #![tactic(auto)]
 
 mod call;
+mod ends;
 mod speed;
+mod stop;
 
 use std::io::BufWriter;
 use std::process::ExitCode;

@@ -1,7 +1,7 @@
 -- The cache is the DFA's.
 use Rattle.std.proofs.Common.{length, ◌-◌}
 use Rattle.nfa_lazy_dfa.specs.Rows.{IsFor}
-use Rattle.hybrid_bench.proofs.count_windows.Given as goal
+use Rattle.clocks.proofs.ends.Ends.count.Given as goal
 
 abbrev pub invariant-loop-from : goal.invariant-loop-from
 invariant-loop-from l = IsFor l.cache l.dfa

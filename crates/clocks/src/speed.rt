@@ -1,26 +1,18 @@
-//! What the program does: makes a call on its input over and over, with one of our engines or with the crate regex; or
-//! prints the number of states.
+//! What the program does: makes a call on its input over and over, with one of our engines, with a lazy DFA or with the
+//! crate regex; or prints the number of states.
 ghost use Rattle.std.specs.Prelude.{◌≤◌, IfOk};
 
 use crate::call::Call;
+use crate::ends::Ends;
+use crate::stop::{FAILED, Stop};
 use named_engine::{Engine, Failure, read_haystack};
-use nfa_compiler::{CompileError, Compiler};
-use nfa_engines::error::SearchError;
-use nfa_meta::{BuildError, Regex as Meta};
+use nfa_compiler::Compiler;
+use nfa_meta::Regex as Meta;
 use regex::bytes::Regex;
-use std::alloc::{AllocError, Global};
+use std::alloc::Global;
+use std::io;
 use std::io::{Read, Write};
-use std::{fmt, io};
 use thompson_nfa::NFA;
-
-/// The pattern or the search was refused, or reading or writing failed.
-const FAILED: u8 = 1;
-
-/// The arguments are not those of the program.
-const MISUSED: u8 = 2;
-
-const USAGE: &str =
-    "usage: compiler-bench [back|pike|meta[-captures|-lent]|regex[-captures] PATTERN ROUNDS|states PATTERN]";
 
 /// Searches the text as the arguments after the program's name say, and prints the number of matches of the last round,
 /// or the number of states, in a line. Prints one line with the error if that fails.
@@ -74,6 +66,7 @@ fn count<R: Read>(alloc: Global, words: &[&str], text: &mut R) -> Result<u64, St
     match finder {
         Finder::Regex(call) => regex_rounds(alloc, pattern, &bytes, rounds, call),
         Finder::Meta(call) => meta_rounds(alloc, pattern, &bytes, rounds, call),
+        Finder::Lazy(ends) => ends.rounds(alloc, compiled(alloc, pattern)?, &bytes, rounds),
         Finder::Ours(engine) => {
             let count = engine.count_matches(alloc, compiled(alloc, pattern)?, &bytes, rounds)?;
             Ok(count)
@@ -128,6 +121,7 @@ fn meta_rounds(
 #[derive(Clone, Copy, Debug)]
 enum Finder {
     Ours(Engine),
+    Lazy(Ends),
     Meta(Call),
     Regex(Call),
 }
@@ -140,83 +134,9 @@ impl Finder {
         if let Some(call) = word.strip_prefix("regex") {
             return Call::from_word(call).map(Finder::Regex);
         }
+        if let Some(ends) = word.strip_prefix("dfa") {
+            return Ends::from_word(ends).map(Finder::Lazy);
+        }
         Engine::from_word(word).map(Finder::Ours)
-    }
-}
-
-/// Why the program stops before it is done.
-#[derive(Debug, Drop)]
-enum Stop {
-    Usage,
-    Pattern(CompileError),
-    OtherPattern(regex::Error),
-    Failed(Failure),
-}
-
-impl Stop {
-    fn status(&self) -> u8
-        ensures { result ≤ 2 }
-    {
-        match self {
-            Stop::Usage => MISUSED,
-            Stop::Pattern(_) | Stop::OtherPattern(_) | Stop::Failed(_) => FAILED,
-        }
-    }
-}
-
-impl fmt::Display for Stop {
-    fn fmt<W: fmt::Write>(&self, f: &mut fmt::Formatter<W>) -> fmt::Result {
-        match self {
-            Stop::Usage => {
-                f.write_str(
-                    "usage: compiler-bench [back|pike|meta[-CALL]|regex[-CALL] PATTERN ROUNDS|states PATTERN]",
-                )
-            }
-            Stop::Pattern(error) => write!(f, "{error}"),
-            Stop::OtherPattern(error) => write!(f, "{error}"),
-            Stop::Failed(failure) => write!(f, "{failure}"),
-        }
-    }
-}
-
-impl From<CompileError> for Stop {
-    fn from(error: CompileError) -> Stop {
-        Stop::Pattern(error)
-    }
-}
-
-impl From<BuildError> for Stop {
-    fn from(error: BuildError) -> Stop {
-        match error {
-            BuildError::Memory => Stop::Failed(Failure::Memory),
-            BuildError::Compile(error) => Stop::Pattern(error),
-        }
-    }
-}
-
-impl From<regex::Error> for Stop {
-    fn from(error: regex::Error) -> Stop {
-        match error {
-            regex::Error::OutOfMemory => Stop::Failed(Failure::Memory),
-            error => Stop::OtherPattern(error),
-        }
-    }
-}
-
-impl From<SearchError> for Stop {
-    fn from(error: SearchError) -> Stop {
-        Stop::Failed(Failure::from(error))
-    }
-}
-
-impl From<AllocError> for Stop {
-    fn from(error: AllocError) -> Stop {
-        Stop::Failed(Failure::from(error))
-    }
-}
-
-impl From<Failure> for Stop {
-    fn from(failure: Failure) -> Stop {
-        Stop::Failed(failure)
     }
 }
