@@ -75,7 +75,8 @@ enum {
     NFA_NO_UNICODE = 64,          /* \w, \d, \s, \b and case are those of ASCII */
     NFA_BYTES = 128,              /* the pattern may match bytes that are not UTF-8 */
     NFA_ANCHORED = 256,           /* a match begins where the search does */
-    NFA_NO_DFA = 512              /* searches do without the lazy DFA: slower, in less memory */
+    NFA_NO_DFA = 512,             /* searches do without the lazy DFA: slower, in less memory */
+    NFA_OCTAL = 1024              /* \141 is the character of this octal number */
 };
 
 /* Settings. All zero is the default; so is each 0. */
@@ -161,7 +162,8 @@ int32_t nfa_regex_place(const uint8_t *pattern, size_t pattern_len, const nfa_op
 /* ---- Sets ---- */
 
 /* Compiles a set of patterns, numbered from 0 on, and frees what the handle had. They are in one text, each from the
- * end of the one before it up to its own end. NFA_OK, NFA_RANGE, NFA_MEMORY, NFA_UTF8 or NFA_PATTERN. */
+ * end of the one before it up to its own end. NFA_OK; NFA_RANGE if the ends do not rise or one is past the text;
+ * NFA_UTF8 if they do, and a pattern is not UTF-8; NFA_MEMORY or NFA_PATTERN. */
 int32_t nfa_regex_set_new_with(nfa_set *set, const uint8_t *text, size_t text_len, const size_t *ends, size_t count,
                                const nfa_options *options);
 

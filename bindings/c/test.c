@@ -121,7 +121,10 @@ static void options(void) {
     WANT(found_with(&re, &set, "a . + # x", "a\nb", &m) == NFA_FOUND && m.end == 2);
     set.flags = NFA_MULTI_LINE | NFA_CRLF;
     WANT(found_with(&re, &set, "a$", "a\r\nb", &m) == NFA_FOUND && m.end == 1);
+    set.flags = NFA_OCTAL;
+    WANT(found_with(&re, &set, "\\142", hay, &m) == NFA_FOUND && m.start == 8);
     set.flags = 0;
+    WANT(found_with(&re, &set, "\\142", hay, &m) == NFA_PATTERN);
     set.size_limit = 1000;
     WANT(found_with(&re, &set, "\\w{20}", hay, &m) == NFA_PATTERN && nfa_captures_len(&re) == 0);
     WANT(found_with(&re, NULL, "\\w{20}", hay, &m) == NFA_NONE);

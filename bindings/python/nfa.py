@@ -14,19 +14,27 @@ and one of bytes matches bytes. Each thread that uses a pattern compiles it for 
 """
 import ctypes as c
 import os
+import sys
 import threading
 from itertools import accumulate, count as count_up
-from re import A, ASCII, DOTALL, I, IGNORECASE, M, MULTILINE, S, U, UNICODE, VERBOSE, X
+from operator import index
+from re import A, ASCII, DOTALL, I, IGNORECASE, M, MULTILINE, S, U, UNICODE, VERBOSE, X, RegexFlag
 from re import match as re_match
+from types import GenericAlias, MappingProxyType
 from weakref import WeakValueDictionary
 
-__all__ = ['A', 'ASCII', 'DOTALL', 'I', 'IGNORECASE', 'M', 'MULTILINE', 'Match', 'Pattern', 'PatternError', 'S', 'U',
-           'UNICODE', 'VERBOSE', 'X', 'compile', 'error', 'escape', 'findall', 'finditer', 'fullmatch', 'match',
-           'purge', 'search', 'split', 'sub', 'subn']
+NOFLAG = RegexFlag(0)
+
+__all__ = ['A', 'ASCII', 'DOTALL', 'I', 'IGNORECASE', 'M', 'MULTILINE', 'Match', 'NOFLAG', 'Pattern', 'PatternError',
+           'RegexFlag', 'S', 'U', 'UNICODE', 'VERBOSE', 'X', 'compile', 'error', 'escape', 'findall', 'finditer',
+           'fullmatch', 'match', 'purge', 'search', 'split', 'sub', 'subn']
 
 # The library's flags.
 _ASCII, _BYTES, _ANCHORED = 64, 128, 256
 _FLAGS = {I: 1, M: 2, S: 4, X: 16, A: _ASCII, U: 0}
+
+# Those that a pattern may begin with.
+_LETTERS = {'i': I, 'm': M, 's': S, 'x': X}
 
 # What a letter after a backslash is in a template.
 _ESCAPES = {'\\': '\\', 'a': '\a', 'b': '\b', 'f': '\f', 'n': '\n', 'r': '\r', 't': '\t', 'v': '\v'}
@@ -125,10 +133,14 @@ def _group_names(text, flags):
     return {name: group for group, name in enumerate(lines) if name}
 
 
-def _flags_of(flags):
+def _flags_of(flags, is_text):
     """The library's flags for those of `re`."""
     if flags & ~sum(_FLAGS):
         raise ValueError(f'flags are not supported: {flags!r}')
+    if flags & U and not is_text:
+        raise ValueError('cannot use UNICODE flag with a bytes pattern')
+    if flags & U and flags & A:
+        raise ValueError('ASCII and UNICODE flags are incompatible')
     return sum(own for flag, own in _FLAGS.items() if flags & flag)
 
 
@@ -158,18 +170,24 @@ class _Text:
     """A haystack as bytes, with positions in it as its user counts them."""
 
     def __init__(self, string):
-        self.string = string
+        self.string = self.content = string
         if isinstance(string, str):
             self.raw = string.encode('utf-8', 'surrogatepass')
             self.plain = len(self.raw) == len(string)
         else:
-            self.raw, self.plain = bytes(string), True
+            self.raw = self.content = bytes(memoryview(string))
+            self.plain = True
         # A position that was asked for, with its offset: the next one is often further on.
         self.known = 0, 0
 
     def offset(self, position):
         """The byte offset of a position."""
-        return position if self.plain else len(self.string[:position].encode('utf-8', 'surrogatepass'))
+        return position if self.plain else len(self.content[:position].encode('utf-8', 'surrogatepass'))
+
+    def range(self, pos, endpos):
+        """The positions that are searched: those that are none are moved to an end."""
+        size = len(self.content)
+        return min(max(index(pos), 0), size), min(max(index(endpos), 0), size)
 
     def position(self, offset):
         """The position of a byte offset; -1 for none."""
@@ -184,13 +202,19 @@ class _Text:
 class Match:
     """A match. Positions count characters of a str, and bytes of bytes."""
 
+    __class_getitem__ = classmethod(GenericAlias)
+    __iter__ = None
+
     def __init__(self, pattern, text, slots, pos, endpos):
         self.re, self.string, self.pos, self.endpos = pattern, text.string, pos, endpos
-        self._ends = [text.position(slot) for slot in slots]
+        self._content, self._ends = text.content, [text.position(slot) for slot in slots]
 
     def _number(self, group):
-        number = self.re._index(group) if isinstance(group, str) else group
-        if number is None or not 0 <= number <= self.re.groups:
+        try:
+            number = self.re.groupindex[group] if isinstance(group, str) else index(group)
+        except (KeyError, TypeError):
+            number = -1
+        if not 0 <= number <= self.re.groups:
             raise IndexError('no such group')
         return number
 
@@ -206,7 +230,7 @@ class Match:
 
     def _one(self, group, default=None):
         start, end = self.span(group)
-        return default if start < 0 else self.string[start:end]
+        return default if start < 0 else self._content[start:end]
 
     def group(self, *groups):
         if len(groups) > 1:
@@ -242,6 +266,15 @@ class Match:
         """The template: \\1, \\g<1> and \\g<name> stand for groups, and escapes as \\n and \\012 for a character."""
         return self.re._template(template)(self)
 
+    def __copy__(self):
+        return self
+
+    def __deepcopy__(self, memo):
+        return self
+
+    def __reduce__(self):
+        raise TypeError("cannot pickle 'nfa.Match' object")
+
     def __repr__(self):
         return f'<nfa.Match object; span={self.span()}, match={self.group()!r}>'
 
@@ -258,16 +291,23 @@ def _own_handles():
 class Pattern:
     """A compiled pattern."""
 
+    __class_getitem__ = classmethod(GenericAlias)
+
     def __init__(self, pattern, flags=0):
-        self.pattern, self._flags = pattern, _flags_of(flags)
-        # As `re` has them, but for those that the pattern sets.
-        self.flags = int(flags | (U if isinstance(pattern, str) and not flags & A else 0))
-        if isinstance(pattern, str):
+        is_text = isinstance(pattern, str)
+        if not is_text and not isinstance(pattern, bytes):
+            raise TypeError('first argument must be string or compiled pattern')
+        self.pattern, self._flags = pattern, _flags_of(flags, is_text)
+        if is_text:
             self._text = pattern
         else:
             # In such a text a byte above 0x7F is its escape.
             self._text = ''.join(chr(byte) if byte < 0x80 else f'\\x{byte:02X}' for byte in pattern)
             self._flags |= _ASCII | _BYTES
+        # As `re` has them, with those that the pattern begins with.
+        for letter in re_match(r'(?:\(\?[imsx]+\))*', self._text)[0]:
+            flags |= _LETTERS.get(letter, 0)
+        self.flags = int(flags | (U if is_text and not flags & A else 0))
         self._number = next(_numbers)
         _alive[self._number] = self
         try:
@@ -275,10 +315,7 @@ class Pattern:
         except ValueError:
             raise _refusal(pattern, self._text.encode(), self._flags) from None
         self.groups = first.count // 2 - 1
-        self.groupindex = _group_names(self._text.encode(), self._flags)
-
-    def _index(self, name):
-        return self.groupindex.get(name)
+        self.groupindex = MappingProxyType(_group_names(self._text.encode(), self._flags))
 
     def _compiled(self, how):
         """This thread's handle for `search`, `match` or `fullmatch`."""
@@ -288,6 +325,11 @@ class Pattern:
                 del own[dropped]
             own[key] = self._compile(how)
         return own[key]
+
+    def _search(self, how, text, start, end):
+        """The offsets of the groups of the match between these offsets, or none. An iteration may go on in another
+        thread, and then by a handle of that."""
+        return self._compiled(how).search(text.raw, start, end)
 
     def _compile(self, how):
         if how == 'search':
@@ -305,38 +347,47 @@ class Pattern:
         raise error('no pattern for a full match', self.pattern)
 
     def _checked(self, string):
-        if isinstance(string, str) != isinstance(self.pattern, str):
-            raise TypeError('a pattern of str takes a str, and one of bytes takes bytes')
-        return _Text(string)
+        is_text = isinstance(self.pattern, str)
+        if isinstance(string, str):
+            if not is_text:
+                raise TypeError('cannot use a bytes pattern on a string-like object')
+            return _Text(string)
+        try:
+            text = _Text(string)
+        except TypeError:
+            said = f'expected string or bytes-like object, got {type(string).__name__!r}'
+            raise TypeError(said) from None
+        if is_text:
+            raise TypeError('cannot use a string pattern on a bytes-like object')
+        return text
 
     def _one(self, how, string, pos, endpos):
         text = self._checked(string)
-        endpos = len(string) if endpos is None else max(0, min(endpos, len(string)))
-        pos = max(0, pos)
+        pos, endpos = text.range(pos, endpos)
         if pos > endpos:
             return None
-        slots = self._compiled(how).search(text.raw, text.offset(pos), text.offset(endpos))
+        slots = self._search(how, text, text.offset(pos), text.offset(endpos))
         return slots and Match(self, text, slots, pos, endpos)
 
-    def search(self, string, pos=0, endpos=None):
+    def search(self, string, pos=0, endpos=sys.maxsize):
         return self._one('search', string, pos, endpos)
 
-    def match(self, string, pos=0, endpos=None):
+    def match(self, string, pos=0, endpos=sys.maxsize):
         return self._one('match', string, pos, endpos)
 
-    def fullmatch(self, string, pos=0, endpos=None):
+    def fullmatch(self, string, pos=0, endpos=sys.maxsize):
         return self._one('fullmatch', string, pos, endpos)
 
-    def finditer(self, string, pos=0, endpos=None):
+    def finditer(self, string, pos=0, endpos=sys.maxsize):
         text = self._checked(string)
-        endpos = len(string) if endpos is None else max(0, min(endpos, len(string)))
-        pos = max(0, pos)
+        return self._matches(text, *text.range(pos, endpos))
+
+    def _matches(self, text, pos, endpos):
         at, end, last = text.offset(pos), text.offset(endpos), None
-        compiled = self._compiled('search')
         while at <= end:
-            slots = compiled.search(text.raw, at, end)
+            slots = self._search('search', text, at, end)
             if slots and slots[0] == slots[1] == last:
-                slots = compiled.search(text.raw, at + 1, end) if at < end else None
+                slots = self._search('search', text, at + 1, end) if at < end else None
             if not slots:
                 return
             last = slots[1]
@@ -344,8 +395,8 @@ class Pattern:
             at = last + 1 if slots[0] == last else last
             yield Match(self, text, slots, pos, endpos)
 
-    def findall(self, string, pos=0, endpos=None):
-        empty = string[:0]
+    def findall(self, string, pos=0, endpos=sys.maxsize):
+        empty = self.pattern[:0]
         found = self.finditer(string, pos, endpos)
         if self.groups == 0:
             return [each.group() for each in found]
@@ -353,26 +404,30 @@ class Pattern:
 
     def split(self, string, maxsplit=0):
         pieces, at = [], 0
+        text = self._checked(string)
         if maxsplit < 0:
-            return [self._checked(string).string]
-        for count, found in enumerate(self.finditer(string), 1):
-            pieces += [string[at:found.start()], *found.groups()]
+            return [text.content]
+        for count, found in enumerate(self._matches(text, *text.range(0, sys.maxsize)), 1):
+            pieces += [text.content[at:found.start()], *found.groups()]
             at = found.end()
             if count == maxsplit:
                 break
-        return [*pieces, string[at:]]
+        return [*pieces, text.content[at:]]
 
     def subn(self, repl, string, count=0):
         make = repl if callable(repl) else self._template(repl)
         pieces, at, made = [], 0, 0
+        text = self._checked(string)
+        empty = self.pattern[:0]
         if count < 0:
-            return self._checked(string).string, 0
-        for found in self.finditer(string):
-            pieces += [string[at:found.start()], make(found)]
+            return text.content, 0
+        for found in self._matches(text, *text.range(0, sys.maxsize)):
+            with_it = make(found)
+            pieces += [text.content[at:found.start()], empty if with_it is None else with_it]
             at, made = found.end(), made + 1
             if made == count:
                 break
-        return string[:0].join([*pieces, string[at:]]), made
+        return empty.join([*pieces, text.content[at:]]), made
 
     def sub(self, repl, string, count=0):
         return self.subn(repl, string, count)[0]
@@ -380,17 +435,18 @@ class Pattern:
     def _template(self, template):
         """A function from a match to the template with its groups."""
         is_text = isinstance(template, str)
-        text, parts, at = template if is_text else template.decode('latin-1'), [], 0
+        text, parts, at = template if is_text else bytes(memoryview(template)).decode('latin-1'), [], 0
         while (next_at := text.find('\\', at)) >= 0:
             part, size = self._escape(text[next_at + 1:], template)
             parts += [text[at:next_at], part]
             at = next_at + 1 + size
         parts.append(text[at:])
+        if not is_text:
+            parts = [part.encode('latin-1') if isinstance(part, str) else part for part in parts]
+        empty, parts = self.pattern[:0], [part for part in parts if isinstance(part, int) or part]
 
         def fill(found):
-            empty = found.string[:0]
-            shown = [part if is_text else part.encode('latin-1') if isinstance(part, str) else part for part in parts]
-            return empty.join(found[part] or empty if isinstance(part, int) else part for part in shown)
+            return empty.join(found[part] or empty if isinstance(part, int) else part for part in parts)
         return fill
 
     def _escape(self, rest, template):
@@ -410,7 +466,9 @@ class Pattern:
     def _group(self, name, template):
         """The number of the group that a template names so."""
         if not (name.isascii() and name.isdigit()):
-            if (number := self._index(name)) is None:
+            if not name.isidentifier():
+                raise error(f'bad character in group name {name!r}', template)
+            if (number := self.groupindex.get(name)) is None:
                 raise IndexError(f'unknown group name {name!r}')
         elif (number := int(name)) > self.groups:
             raise error(f'invalid group reference {number}', template)
@@ -435,7 +493,8 @@ class Pattern:
         return self
 
     def __repr__(self):
-        return f'nfa.compile({self.pattern!r})'
+        shown = RegexFlag(self.flags & ~U if isinstance(self.pattern, str) else self.flags)
+        return f'nfa.compile({self.pattern!r:.200}{f", {shown!r}" if shown else ""})'
 
 
 def compile(pattern, flags=0):
@@ -443,7 +502,7 @@ def compile(pattern, flags=0):
     if not isinstance(pattern, Pattern):
         return _kept(pattern, flags)
     if flags:
-        raise ValueError('a compiled pattern takes no flags')
+        raise ValueError('cannot process flags argument with a compiled pattern')
     return pattern
 
 
@@ -499,6 +558,6 @@ def subn(pattern, repl, string, count=0, flags=0):
 def escape(pattern):
     """A pattern that matches this text."""
     is_text = isinstance(pattern, str)
-    text = (pattern if is_text else bytes(pattern).decode('latin-1')).encode()
+    text = (pattern if is_text else bytes(memoryview(pattern)).decode('latin-1')).encode()
     escaped = _written(_lib.nfa_regex_escape, text, len(text))
     return escaped if is_text else escaped.encode('latin-1')

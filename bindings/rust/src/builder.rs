@@ -14,6 +14,7 @@ const IGNORE_WHITESPACE: u32 = 16;
 const CRLF: u32 = 32;
 const NO_UNICODE: u32 = 64;
 const ANCHORED: u32 = 256;
+const OCTAL: u32 = 1024;
 
 /// The settings that builders begin with.
 pub fn default_options<T: Text + ?Sized>() -> Options {
@@ -80,6 +81,11 @@ macro_rules! builder {
             /// Classes and case are those of Unicode. This is the default.
             pub fn unicode(&mut self, yes: bool) -> &mut Self {
                 self.flag(NO_UNICODE, !yes)
+            }
+
+            /// `\141` is the character of this octal number.
+            pub fn octal(&mut self, yes: bool) -> &mut Self {
+                self.flag(OCTAL, yes)
             }
 
             /// Whether each match begins where the search does.

@@ -1,6 +1,7 @@
 //! Matches, and the groups of one.
 use crate::text::Text;
 use std::fmt;
+use std::iter::FusedIterator;
 use std::ops::{Index, Range};
 use std::sync::Arc;
 
@@ -176,8 +177,8 @@ impl<'h, T: Text + ?Sized> Captures<'h, T> {
     }
 
     /// The groups, in order.
-    pub fn iter(&self) -> impl ExactSizeIterator<Item = Option<Match<'h, T>>> + '_ {
-        (0..self.len()).map(|group| self.get(group))
+    pub fn iter(&self) -> SubCaptureMatches<'_, 'h, T> {
+        SubCaptureMatches { groups: self, left: 0..self.len() }
     }
 
     /// Appends the template, in which `$1`, `$name`, `${1}` and `${name}` stand for groups, and `$$` for `$`.
@@ -209,6 +210,49 @@ impl<'h, T: Text + ?Sized> Captures<'h, T> {
         }
     }
 }
+
+/// The groups of a match, in order.
+#[derive(Clone, Debug)]
+pub struct SubCaptureMatches<'c, 'h, T: Text + ?Sized = [u8]> {
+    groups: &'c Captures<'h, T>,
+    left: Range<usize>,
+}
+
+impl<'h, T: Text + ?Sized> Iterator for SubCaptureMatches<'_, 'h, T> {
+    type Item = Option<Match<'h, T>>;
+
+    fn next(&mut self) -> Option<Self::Item> {
+        self.left.next().map(|group| self.groups.get(group))
+    }
+
+    fn size_hint(&self) -> (usize, Option<usize>) {
+        self.left.size_hint()
+    }
+}
+
+impl<T: Text + ?Sized> ExactSizeIterator for SubCaptureMatches<'_, '_, T> {}
+
+impl<T: Text + ?Sized> FusedIterator for SubCaptureMatches<'_, '_, T> {}
+
+/// The names of groups, in order.
+#[derive(Clone, Debug)]
+pub struct CaptureNames<'r>(pub(crate) std::slice::Iter<'r, Option<String>>);
+
+impl<'r> Iterator for CaptureNames<'r> {
+    type Item = Option<&'r str>;
+
+    fn next(&mut self) -> Option<Self::Item> {
+        self.0.next().map(|name| name.as_deref())
+    }
+
+    fn size_hint(&self) -> (usize, Option<usize>) {
+        self.0.size_hint()
+    }
+}
+
+impl ExactSizeIterator for CaptureNames<'_> {}
+
+impl FusedIterator for CaptureNames<'_> {}
 
 impl<T: Text + ?Sized> Clone for Captures<'_, T> {
     fn clone(&self) -> Self {

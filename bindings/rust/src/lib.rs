@@ -24,11 +24,11 @@ mod sys;
 mod text;
 
 pub use builder::{RegexBuilder, RegexBuilderOf, RegexSetBuilder, RegexSetBuilderOf};
-pub use captures::{CaptureLocations, Captures, Match};
+pub use captures::{CaptureLocations, CaptureNames, Captures, Match, SubCaptureMatches};
 pub use iter::{CaptureMatches, Matches, Split, SplitN};
 pub use regex::{Regex, RegexOf};
 pub use replace::{NoExpand, Replacer, ReplacerRef};
-pub use set::{RegexSet, RegexSetOf, SetMatches, SetMatchesIter};
+pub use set::{RegexSet, RegexSetOf, SetMatches, SetMatchesIntoIter, SetMatchesIter};
 pub use text::Text;
 
 /// Why no regex was made.

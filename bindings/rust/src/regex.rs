@@ -3,7 +3,7 @@ use crate::builder::default_options;
 use crate::shared::{Held, Shared};
 use crate::sys::{group_names, RegexHandle};
 use crate::text::Text;
-use crate::{CaptureLocations, CaptureMatches, Captures, Error, Match, Matches, Replacer, Split, SplitN};
+use crate::{CaptureLocations, CaptureMatches, CaptureNames, Captures, Error, Match, Matches, Replacer, Split, SplitN};
 use std::borrow::Cow;
 use std::fmt;
 use std::marker::PhantomData;
@@ -76,8 +76,8 @@ impl<T: Text + ?Sized> RegexOf<T> {
     /// assert_eq!(regex.capture_names().collect::<Vec<_>>(), [None, Some("year"), None]);
     /// # Ok::<(), nfa_engines::Error>(())
     /// ```
-    pub fn capture_names(&self) -> impl ExactSizeIterator<Item = Option<&str>> + '_ {
-        self.names.iter().map(|name| name.as_deref())
+    pub fn capture_names(&self) -> CaptureNames<'_> {
+        CaptureNames(self.names.iter())
     }
 
     /// The number of the group of this name.

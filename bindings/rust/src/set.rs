@@ -185,11 +185,35 @@ impl<'a> IntoIterator for &'a SetMatches {
     }
 }
 
+/// The same, of a [`SetMatches`] that it owns.
+#[derive(Clone, Debug)]
+pub struct SetMatchesIntoIter(std::vec::IntoIter<usize>);
+
+impl Iterator for SetMatchesIntoIter {
+    type Item = usize;
+
+    fn next(&mut self) -> Option<usize> {
+        self.0.next()
+    }
+
+    fn size_hint(&self) -> (usize, Option<usize>) {
+        self.0.size_hint()
+    }
+}
+
+impl DoubleEndedIterator for SetMatchesIntoIter {
+    fn next_back(&mut self) -> Option<usize> {
+        self.0.next_back()
+    }
+}
+
+impl std::iter::FusedIterator for SetMatchesIntoIter {}
+
 impl IntoIterator for SetMatches {
     type Item = usize;
-    type IntoIter = std::vec::IntoIter<usize>;
+    type IntoIter = SetMatchesIntoIter;
 
     fn into_iter(self) -> Self::IntoIter {
-        self.iter().collect::<Vec<_>>().into_iter()
+        SetMatchesIntoIter(self.iter().collect::<Vec<_>>().into_iter())
     }
 }

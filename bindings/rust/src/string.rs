@@ -30,6 +30,9 @@ pub type Match<'h> = crate::Match<'h, str>;
 /// The groups of a match.
 pub type Captures<'h> = crate::Captures<'h, str>;
 
+/// The groups of a match, in order.
+pub type SubCaptureMatches<'c, 'h> = crate::SubCaptureMatches<'c, 'h, str>;
+
 /// All matches, from left to right.
 pub type Matches<'r, 'h> = crate::Matches<'r, 'h, str>;
 

@@ -108,6 +108,7 @@ fn settings_and_errors() {
     assert!(Regex::new(r"(?-u:\xFF)").unwrap().is_match(b"a\xFF"));
     assert!(RegexBuilder::new(r"(?-u:\xFF)").utf8(true).build().is_err());
     assert!(!RegexBuilder::new(r"^\w$").unicode(false).utf8(true).build().unwrap().is_match("é".as_bytes()));
+    assert!(RegexBuilder::new(r"\141").octal(true).build().unwrap().is_match(b"a") && Regex::new(r"\141").is_err());
     assert!(RegexBuilder::new("^b$").multi_line(true).build().unwrap().is_match(b"a\nb\nc"));
 }
 

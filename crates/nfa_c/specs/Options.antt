@@ -16,7 +16,7 @@ has_flag flags flag = not (bit_and flags flag == 0)
 abbrev pub or_default : ℕ → ℕ → ℕ
 or_default value default = if value == 0 then default else value
 
--- the syntax: the flags, and else the default
+-- the syntax: the flags, whether there are octal numbers, and else the default
 abbrev pub syntax_in : NfaOptions → Syntax
 syntax_in o = record default_config {
   flags = record {
@@ -28,6 +28,7 @@ syntax_in o = record default_config {
     crlf = has_flag o.flags 32;
     ignore_whitespace = has_flag o.flags 16;
   };
+  octal = has_flag o.flags 1024;
 }
 
 -- the settings of the engines

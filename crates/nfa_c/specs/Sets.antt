@@ -1,5 +1,5 @@
 -- What the handle of a set is made of and keeps, and what exports say of it.
-use Rattle.std.specs.Prelude.{Bool, IsSomeAnd, List, None, Option, Some, codes, false, get_or, if◌then◌else◌, length, slice_index_or, ℕ, ℤ, ◌<◌, ◌≡◌, ◌≢◌, true, ⊤}
+use Rattle.std.specs.Prelude.{Bool, IsSomeAnd, List, None, Option, Some, codes, false, get_or, if◌then◌else◌, length, slice_index_or, ℕ, ℤ, ◌<◌, ◌≡◌, ◌≢◌, true}
 use Rattle.regex_search_core.specs.PatternSets.{size_of_set}
 use Rattle.regex_search_core.specs.Search.{Search}
 use Rattle.regex_search_core.specs.declared.search.MatchKind.TheVariants.{All}
@@ -10,7 +10,7 @@ use Rattle.nfa_meta.specs.Built.{IsBuiltFrom, IsErrorOf}
 use Rattle.nfa_meta.specs.RegexSets.{IsNewSet, KeepsSet as KeepsRegexSet, SetState, no_pattern}
 use Rattle.nfa_meta.specs.declared.builder.Builder.{Builder}
 use Rattle.nfa_c.specs.Codes.{code_of, memory_code, over, pattern_code, range_code, utf8_code}
-use Rattle.nfa_c.specs.Texts.{AreEnds, AreUtf8, texts_in}
+use Rattle.nfa_c.specs.Texts.{AreEnds, AreTexts, AreUtf8, texts_in}
 use Rattle.nfa_c.specs.declared.set_compile.SetFailure.{SetFailure}
 use Rattle.nfa_c.specs.declared.set_compile.SetFailure.TheVariants as failure
 use Rattle.nfa_c.specs.declared.set_handle.CompiledSet.{CompiledSet}
@@ -44,13 +44,13 @@ set_failure_text failure.Range = codes "the ends of the patterns do not rise, or
 set_failure_text failure.Utf8 = codes "a pattern is not UTF-8"
 set_failure_text (failure.Patterns error) = compile_error_text error
 
--- why no set is made of the texts: memory is refused, their ends are none, one is not UTF-8, or the builder refuses
--- them with the error
+-- why no set is made of the texts: their ends do not rise or are past the end, one is not UTF-8, memory is refused, or
+-- the builder refuses them with the error
 abbrev pub IsWhyNoSet : Builder → List ℕ → List ℕ → SetFailure → Type 0
-IsWhyNoSet b text ends failure.Memory = ⊤
 IsWhyNoSet b text ends failure.Range = AreEnds text ends → ⊥
-IsWhyNoSet b text ends failure.Utf8 = AreUtf8 (texts_in text ends) → ⊥
-IsWhyNoSet b text ends (failure.Patterns error) = AreEnds text ends × IsErrorOf b (texts_in text ends) error
+IsWhyNoSet b text ends failure.Utf8 = AreEnds text ends × (AreUtf8 (texts_in text ends) → ⊥)
+IsWhyNoSet b text ends failure.Memory = AreTexts text ends
+IsWhyNoSet b text ends (failure.Patterns error) = AreTexts text ends × IsErrorOf b (texts_in text ends) error
 
 -- the message says what the failure is, or that memory was refused for the words, and has `count` bytes
 pub record SaysSetFailure (f : SetFailure) (count : ℕ) (old new : List ℕ) : Type 0 where

@@ -24,10 +24,28 @@ abbrev pub AreUtf8 : List (List ℕ) → Type 0
 AreUtf8 [] = ⊤
 AreUtf8 (text ∷ texts) = IsUtf8 text × AreUtf8 texts
 
--- The first texts were read, and these ends are left from an offset on: what holds for all holds for those.
-pub record HasRead (text ends left : List ℕ) (from : ℕ) (read : List (List ℕ)) : Type 0 where
-  pub goes_on : read ++ parts_from text from left ≡ texts_in text ends
-  pub ends_left : AreEnds text ends → AreEndsFrom text from left
-  pub ends_all : AreEndsFrom text from left → AreEnds text ends
-  pub utf8_left : AreUtf8 (texts_in text ends) → AreUtf8 (parts_from text from left)
-  pub within : from ≤ length text
+-- the ends rise and are in the text, and each text is UTF-8
+abbrev pub AreTexts : List ℕ → List ℕ → Type 0
+AreTexts text ends = AreEnds text ends × AreUtf8 (texts_in text ends)
+
+-- These ends are left from an offset on.
+module _ (text ends left : List ℕ) (from : ℕ) where
+  -- they are right exactly if all are
+  pub record HasSeen : Type 0 where
+    pub ends_left : AreEnds text ends → AreEndsFrom text from left
+    pub ends_all : AreEndsFrom text from left → AreEnds text ends
+    pub within : from ≤ length text
+
+  -- they are right, and their texts are UTF-8 exactly if all are
+  pub record HasChecked : Type 0 where
+    pub ends_left : AreEndsFrom text from left
+    pub utf8_left : AreUtf8 (texts_in text ends) → AreUtf8 (parts_from text from left)
+    pub utf8_all : AreUtf8 (parts_from text from left) → AreUtf8 (texts_in text ends)
+    pub within : from ≤ length text
+
+  -- they and their texts are right, and with those that were read their texts are all
+  pub record HasRead (read : List (List ℕ)) : Type 0 where
+    pub goes_on : read ++ parts_from text from left ≡ texts_in text ends
+    pub ends_left : AreEndsFrom text from left
+    pub utf8_left : AreUtf8 (parts_from text from left)
+    pub within : from ≤ length text

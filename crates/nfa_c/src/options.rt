@@ -35,6 +35,9 @@ const ANCHORED: u32 = 256;
 /// No search begins with the lazy DFA.
 const NO_DFA: u32 = 512;
 
+/// `\141` is the character of this octal number.
+const OCTAL: u32 = 1024;
+
 /// Settings. Those of all bytes zero are the default.
 #[repr(C)]
 #[derive(Clone, Copy)]
@@ -79,6 +82,7 @@ fn syntax(options: &NfaOptions) -> Syntax
     };
     Syntax {
         flags,
+        octal: has(set, OCTAL),
         ..Syntax::default()
     }
 }

@@ -1,10 +1,9 @@
 //! Where a text is not a pattern.
 ghost use Rattle.std.specs.Prelude.{[], pos, ◌∷◌, ◌≡◌, ◌≢◌};
-ghost use Rattle.nfa_c.specs.Codes.{SaysWhy};
 ghost use Rattle.nfa_c.specs.Options.{builder_in};
-ghost use Rattle.nfa_c.specs.Places.{ArePatterns, IsPattern, IsPlace, WritesPlace, place_of};
-ghost use Rattle.nfa_c.specs.Sets.{SaysWhyNoSet};
-ghost use Rattle.nfa_c.specs.Texts.{texts_in};
+ghost use Rattle.nfa_c.specs.Places.{ArePatterns, IsPattern, IsPlace, SaysNoPlace, SaysNoSetPlace, WritesPlace};
+ghost use Rattle.nfa_c.specs.Places.{place_of};
+ghost use Rattle.nfa_c.specs.Texts.{AreTexts, texts_in};
 
 use crate::codes::{FOUND, Failure, NONE, PATTERN, code};
 use crate::compile::build;
@@ -43,7 +42,7 @@ pub extern "C" fn nfa_regex_place(
 ) -> i32
     ensures place { result ≡ pos 1 → IsPlace (builder_in options.now) (pattern.now ∷ []) place.new }
     ensures none { result ≡ pos 0 → IsPattern (builder_in options.now) pattern.now }
-    ensures why { result ≢ pos 1 → result ≢ pos 0 → SaysWhy (builder_in options.now) pattern.now result }
+    ensures why { result ≢ pos 1 → result ≢ pos 0 → SaysNoPlace (builder_in options.now) pattern.now result }
     ensures stays { result ≢ pos 1 → place.new ≡ place.old }
 {
     match build(alloc, &options::builder(options), pattern) {
@@ -64,8 +63,9 @@ pub extern "C" fn nfa_regex_set_place(
 ) -> i32
     ensures place { result ≡ pos 1 → IsPlace (builder_in options.now) (texts_in text.now ends.now) place.new }
     ensures none { result ≡ pos 0 → ArePatterns (builder_in options.now) (texts_in text.now ends.now) }
+    ensures texts { result ≡ pos 0 → AreTexts text.now ends.now }
     ensures why { result ≢ pos 1 → result ≢ pos 0 →
-        SaysWhyNoSet (builder_in options.now) text.now ends.now result }
+        SaysNoSetPlace (builder_in options.now) text.now ends.now result }
     ensures stays { result ≢ pos 1 → place.new ≡ place.old }
 {
     match build_set(alloc, &options::builder(options), text, ends) {

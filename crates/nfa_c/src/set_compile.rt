@@ -3,7 +3,7 @@ ghost use Rattle.std.specs.Prelude.{IfErr, IfOk, IsSome, IsSomeAnd, None, pos, �
 ghost use Rattle.nfa_c.specs.Codes.{empty_code, memory_code};
 ghost use Rattle.nfa_c.specs.Options.{builder_in};
 ghost use Rattle.nfa_c.specs.Sets.{IsCopySet, IsMadeSet, IsWhyNoSet, SaysWhyNoSet, set_failure_code};
-ghost use Rattle.nfa_c.specs.Texts.{AreEnds, texts_in};
+ghost use Rattle.nfa_c.specs.Texts.{AreTexts, texts_in};
 
 use crate::codes::{EMPTY, MEMORY, OK, PATTERN, RANGE, UTF8};
 use crate::options::{self, NfaOptions};
@@ -56,7 +56,7 @@ pub(crate) fn build_set(
     ends: &[usize],
 ) -> Result<Box<CompiledSet, Global>, SetFailure>
     ensures made { IfOk result (λ made. IsMadeSet builder.now (texts_in text.now ends.now) made.value) }
-    ensures ends { IfOk result (λ _. AreEnds text.now ends.now) }
+    ensures texts { IfOk result (λ _. AreTexts text.now ends.now) }
     ensures why { IfErr result (IsWhyNoSet builder.now text.now ends.now) }
 {
     let patterns = match texts_of(alloc, text, ends) {
@@ -86,7 +86,7 @@ pub extern "C" fn nfa_regex_set_new_with(
 ) -> i32
     ensures made { result ≡ pos 0 → IsSomeAnd set.new.slot.value
         (IsMadeSet (builder_in options.now) (texts_in text.now ends.now)) }
-    ensures ends { result ≡ pos 0 → AreEnds text.now ends.now }
+    ensures texts { result ≡ pos 0 → AreTexts text.now ends.now }
     ensures failed { result ≢ pos 0 → set.new.slot.value ≡ None }
     ensures why { result ≢ pos 0 → SaysWhyNoSet (builder_in options.now) text.now ends.now result }
 {

@@ -4,7 +4,7 @@ ghost use Rattle.nfa_compiler.specs.Rejected.{compile_error_text};
 ghost use Rattle.nfa_c.specs.Options.{builder_in};
 ghost use Rattle.nfa_c.specs.Places.{ArePatterns};
 ghost use Rattle.nfa_c.specs.Sets.{SaysSetFailure, TellsWhyNoSet};
-ghost use Rattle.nfa_c.specs.Texts.{texts_in};
+ghost use Rattle.nfa_c.specs.Texts.{AreTexts, texts_in};
 
 use crate::codes::NO_MEMORY;
 use crate::options::{self, NfaOptions};
@@ -56,6 +56,7 @@ pub extern "C" fn nfa_regex_set_why(
     ensures why { result ≢ 0 →
         TellsWhyNoSet (builder_in options.now) text.now ends.now result message.old message.new }
     ensures none { result ≡ 0 → ArePatterns (builder_in options.now) (texts_in text.now ends.now) }
+    ensures texts { result ≡ 0 → AreTexts text.now ends.now }
     ensures stays { result ≡ 0 → message.new ≡ message.old }
 {
     match build_set(alloc, &options::builder(options), text, ends) {

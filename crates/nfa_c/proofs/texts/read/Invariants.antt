@@ -2,7 +2,7 @@
 use Rattle.std.proofs.Common.{List, drop, map, ℕ}
 use Rattle.std.specs.Borrow.{Bor}
 use Rattle.nfa_c.specs.Texts.{HasRead}
-use Rattle.nfa_c.proofs.texts.texts_of.Given as goal
+use Rattle.nfa_c.proofs.texts.read.Given as goal
 
 abbrev pub invariant-loop-end : goal.invariant-loop-end
 invariant-loop-end l = HasRead l.text l.ends (drop l.end-index l.ends) l.from
