@@ -9,10 +9,9 @@ use Rattle.nfa_engines.specs.Laws.{MatchesNothing, MatchesSomething}
 use Rattle.nfa_engines.specs.StartLaws.{anchored_at, IsFirstStart, IsUnbound}
 use Rattle.nfa_engines.proofs.MovedLemmas.{In-mapped}
 use Rattle.nfa_engines.proofs.StartAnswerLemmas.{nothing-of}
-use Rattle.regex_literal.specs.Ladders.{Admits}
 use Rattle.regex_literal.specs.Levels.{FitsLevels}
-use Rattle.regex_literal.specs.declared.ladder.Ladder.{Ladder}
-use Rattle.nfa_prefix.specs.Levels.{AdmitsMatches, AdmitsNoneBefore, AdmitsNoneFrom, Grows, Has, HasBytes, IsFilled}
+use Rattle.nfa_prefix.specs.declared.levels.Levels.{Levels}
+use Rattle.nfa_prefix.specs.Levels.{AdmitsAt, AdmitsMatches, AdmitsNoneBefore, AdmitsNoneFrom, Grows, Has, HasBytes, IsFilled}
 use Rattle.nfa_prefix.specs.Reached.{AddsTo, HasTargets}
 use Rattle.nfa_prefix.proofs.PrefixLemmas.{byte-read}
 use Rattle.nfa_prefix.proofs.ReachedLemmas.{HasOtherTargets-added, In-added, each-in, get-added}
@@ -226,12 +225,12 @@ module _ (nfa : Automaton) where
             rw (same t below, byte) h.has;
       }
 
-  -- and a ladder of them admits where it has one
-  pub climb-admits : (levels part : List (List Bool)) (count : ℕ) (here : List ℕ) (ladder : Ladder)
+  -- and a search for them admits where it has one
+  pub climb-admits : (levels part : List (List Bool)) (count : ℕ) (here : List ℕ) (found : Levels)
       → length part ≡ count → ((t : ℕ) → t < count → get_or part t [] ≡ get_or levels t [])
       → AllClimb nfa levels count here
-      → ((hay : List ℕ) (k : ℕ) → FitsLevels hay part k → Admits ladder hay k) → AdmitsMatches nfa ladder
-  climb-admits levels part count here ladder many same all admits = record {
+      → ((hay : List ℕ) (k : ℕ) → FitsLevels hay part k → AdmitsAt found hay k) → AdmitsMatches nfa found
+  climb-admits levels part count here found many same all admits = record {
     admits = λ x at fits small matches.
         admits (slice_range x.haystack 0 x.end) at
         (climb-fits levels part count here many same all x at fits small matches);
@@ -329,15 +328,15 @@ module _ (nfa : Automaton) where
 
 -- starts
 
-module _ (nfa : Automaton) (x : Search) (ladder : Ladder) (admits : AdmitsMatches nfa ladder)
+module _ (nfa : Automaton) (x : Search) (levels : Levels) (admits : AdmitsMatches nfa levels)
     (fits : x.end ≤ length x.haystack) (small : All (λ b. b < 256) x.haystack) where
-  -- no match starts where the ladder does not admit
+  -- no match starts where the levels do not admit
   nothing-there : (at : ℕ) → (¬ (MatchesSomething nfa (anchored_at x at))) → MatchesNothing nfa (anchored_at x at)
   nothing-there at none = record {
     no_path = λ m p w t. none (record { end = m; along = p; path = w; accepts = t });
   }
 
-  pub first-to-admitted : (from at : ℕ) → IsFirstStart nfa x from → AdmitsNoneBefore ladder x.haystack from x.end at
+  pub first-to-admitted : (from at : ℕ) → IsFirstStart nfa x from → AdmitsNoneBefore levels x.haystack from x.end at
       → IsFirstStart nfa x at
   first-to-admitted from at first lacks =
       let low : x.start ≤ from = first.from in
@@ -352,7 +351,7 @@ module _ (nfa : Automaton) (x : Search) (ladder : Ladder) (admits : AdmitsMatche
       }
 
   pub nothing-admitted : IsUnbound nfa x → (from : ℕ) → IsFirstStart nfa x from
-      → AdmitsNoneFrom ladder x.haystack from x.end → MatchesNothing nfa x
+      → AdmitsNoneFrom levels x.haystack from x.end → MatchesNothing nfa x
   nothing-admitted free from first lacks =
       nothing-of nfa x free
       (λ i start.

@@ -3,6 +3,7 @@
 mod ByteLemmas
 pub mod FewLemmas
 pub mod LevelLemmas
+pub mod NeedleLemmas
 pub mod OccurrenceLemmas
 pub mod PrefixLemmas
 pub mod PositionLemmas

@@ -1,12 +1,14 @@
 -- The bytes that each match has at its first positions, and where a haystack lacks them.
 use Rattle.std.specs.Prelude.{◌≡◌, ℕ, ◌<◌, ◌≤◌, All, Bool, List, None, Some, false, length, slice_index_or, slice_range, true}
+use Rattle.regex_literal.specs.Find.{AnyOccursAt}
 use Rattle.regex_literal.specs.Ladders.{Admits}
-use Rattle.regex_literal.specs.declared.ladder.Ladder.{Ladder}
 use Rattle.nfa_paths.specs.Common.{Automaton, In, Node, Search, pattern_of, target_on}
 use Rattle.nfa_scan_core.specs.FirstBytes.{epsilon_targets}
 use Rattle.nfa_engines.specs.Laws.{MatchesSomething}
 use Rattle.nfa_engines.specs.StartLaws.{anchored_at}
 use Rattle.nfa_prefix.specs.Reached.{HasOtherTargets}
+use Rattle.nfa_prefix.specs.declared.levels.Levels.{Levels}
+use Rattle.nfa_prefix.specs.declared.levels.Levels.TheVariants.{Bytes, Texts}
 
 -- the level has the byte
 abbrev pub Has : List Bool → ℕ → Type 0
@@ -28,17 +30,22 @@ pub record IsFilled (here next : List ℕ) (level : List Bool) (node : Node) : T
   pub over : HasOtherTargets next None node
   pub reads : HasBytes level node
 
--- wherever an anchored search has an accepting path, the ladder admits the position, in the haystack up to the end of
+-- the levels admit the position: it passes each test of bytes, or one of the texts is there
+abbrev pub AdmitsAt : Levels → List ℕ → ℕ → Type 0
+AdmitsAt (Bytes ladder) hay k = Admits ladder hay k
+AdmitsAt (Texts needles) hay k = AnyOccursAt hay needles k
+
+-- wherever an anchored search has an accepting path, the levels admit the position, in the haystack up to the end of
 -- the span
-pub record AdmitsMatches (nfa : Automaton) (ladder : Ladder) : Type 0 where
+pub record AdmitsMatches (nfa : Automaton) (levels : Levels) : Type 0 where
   pub admits : (x : Search) (at : ℕ) → x.end ≤ length x.haystack → All (λ b. b < 256) x.haystack
-      → MatchesSomething nfa (anchored_at x at) → Admits ladder (slice_range x.haystack 0 x.end) at
+      → MatchesSomething nfa (anchored_at x at) → AdmitsAt levels (slice_range x.haystack 0 x.end) at
 
--- the ladder admits no position from one on, in the haystack up to an end
-pub record AdmitsNoneFrom (ladder : Ladder) (haystack : List ℕ) (from end : ℕ) : Type 0 where
-  pub none : (k : ℕ) → from ≤ k → k ≤ end → ¬ Admits ladder (slice_range haystack 0 end) k
+-- the levels admit no position from one on, in the haystack up to an end
+pub record AdmitsNoneFrom (levels : Levels) (haystack : List ℕ) (from end : ℕ) : Type 0 where
+  pub none : (k : ℕ) → from ≤ k → k ≤ end → ¬ AdmitsAt levels (slice_range haystack 0 end) k
 
--- it admits none from one up to another
-pub record AdmitsNoneBefore (ladder : Ladder) (haystack : List ℕ) (from end at : ℕ) : Type 0 where
+-- they admit none from one up to another
+pub record AdmitsNoneBefore (levels : Levels) (haystack : List ℕ) (from end at : ℕ) : Type 0 where
   pub onward : from ≤ at
-  pub none : (k : ℕ) → from ≤ k → k < at → ¬ Admits ladder (slice_range haystack 0 end) k
+  pub none : (k : ℕ) → from ≤ k → k < at → ¬ AdmitsAt levels (slice_range haystack 0 end) k

@@ -1,6 +1,7 @@
 pub mod FewBytes
 pub mod Levels
 pub mod Literals
+pub mod Needles
 pub mod Prefixes
 pub mod PrefixLaws
 pub mod Reached

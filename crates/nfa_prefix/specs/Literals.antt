@@ -11,6 +11,6 @@ use Rattle.nfa_prefix.specs.declared.literals.Literals.{Literals}
 -- any, and with one of the first bytes, and has the required bytes if there are any
 pub record AreLiteralsOf (nfa : Automaton) (literals : Literals) : Type 0 where
   pub begins : BeginsWith nfa literals.prefix.items
-  pub levels : IfSome literals.levels (λ l. AdmitsMatches nfa l.ladder)
+  pub levels : IfSome literals.levels (AdmitsMatches nfa)
   pub among : BeginsAmong nfa literals.first
   pub has : IfSome literals.required (IsRequired nfa)

@@ -41,14 +41,6 @@ impl FewBytes {
         few
     }
 
-    /// Whether they are more than three, or a match may be empty.
-    pub(crate) fn are_many(&self) -> bool {
-        match self {
-            FewBytes::Any => true,
-            _ => false,
-        }
-    }
-
     /// Returns these bytes, and this one unless the table refuses it.
     fn with_admitted(self, table: &FirstBytes, byte: u8) -> FewBytes
         ensures keeps { (b : ℕ) → is_among result b ≡ false → is_among self b ≡ false }

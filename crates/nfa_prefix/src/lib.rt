@@ -17,6 +17,7 @@ pub mod laws;
 mod level;
 mod levels;
 pub mod literals;
+mod needles;
 mod only_move;
 pub mod prefix;
 mod reached;

@@ -5,6 +5,7 @@ ghost use Rattle.nfa_engines.specs.Laws.{MatchesNothing};
 ghost use Rattle.nfa_engines.specs.StartLaws.{IsFirstStart, IsUnbound};
 ghost use Rattle.nfa_prefix.specs.Levels.{AdmitsMatches};
 ghost use Rattle.nfa_prefix.specs.Literals.{AreLiteralsOf};
+ghost use Rattle.nfa_prefix.specs.Prefixes.{BeginsWith};
 ghost use Rattle.nfa_prefix.specs.RequiredBytes.{IsRequired};
 
 use crate::few_bytes::FewBytes;
@@ -26,12 +27,12 @@ use thompson_nfa::NFA;
 pub struct Literals {
     /// The bytes that each match begins with.
     prefix: Vec<u8>,
-    /// The bytes that matches may have at their first positions, if no prefix is as long and they are rare in text.
+    /// The bytes that matches may have at their first positions, if they are rare in text: a prefix of two bytes or more,
+    /// or else those that are found for each position.
     levels: Option<Levels>,
     /// The bytes that a match may begin with.
     first: FewBytes,
-    /// Bytes that each match has. They are sought only if there is no prefix, and no level, and a match may begin with
-    /// many bytes.
+    /// Bytes that each match has. They are sought only if there is no prefix, and no level.
     required: Option<RequiredBytes>,
 }
 
@@ -49,7 +50,7 @@ impl Literals {
         let prefix = literal_prefix(alloc, nfa)?;
         let levels = levels_of(alloc, nfa, &prefix)?;
         let first = FewBytes::new(nfa);
-        let is_known = !prefix.is_empty() || levels.is_some() || !first.are_many();
+        let is_known = !prefix.is_empty() || levels.is_some();
         let required = required_of(alloc, nfa, is_known)?;
         Ok(Literals {
             prefix,
@@ -64,10 +65,10 @@ impl Literals {
     ///
     /// It is the first one at which the prefix of each match occurs. If that has fewer than two bytes, and the bytes
     /// that matches may have at their first positions are rare in usual text, it is one up to the first with these.
-    /// Otherwise, if there is no prefix, it is the first one whose byte a match may begin with, or the end of the span.
-    /// If a match may begin with more than three bytes, it is the start of the span, or that of the line with the first
-    /// bytes that each match has. Requires that these are literals of the NFA, that neither the search nor the NFA is
-    /// anchored, and that a match may end anywhere.
+    /// Otherwise, if there is no prefix, it is the first one whose byte a match may begin with, or the end of the span,
+    /// if these bytes are at most three; and from there on the start of the line with the first bytes that each match
+    /// has, if there are such bytes. Requires that these are literals of the NFA, that neither the search nor the NFA
+    /// is anchored, and that a match may end anywhere.
     ///
     /// ```
     /// // NFA of "foo[0-9]+", and its literals
@@ -107,21 +108,23 @@ impl Literals {
         if !self.prefix.is_empty() {
             return find_prefix(haystack, from, end, &self.prefix);
         }
+        let at = self.first.next(haystack, from, end);
         match &self.required {
-            Some(required) => required.first_start(haystack, from, end),
-            None => Some(self.first.next(haystack, from, end)),
+            Some(required) => required.first_start(haystack, at, end),
+            None => Some(at),
         }
     }
 }
 
-/// Returns the levels of the NFA, unless its prefix has two bytes.
+/// Returns the levels of the NFA: those of its prefix, if that has two bytes.
 fn levels_of(alloc: Global, nfa: &NFA, prefix: &[u8]) -> Result<Option<Levels>, AllocError>
-    ensures { IfOk result (λ found. IfSome found (λ l. AdmitsMatches nfa.now l.ladder)) }
+    requires { BeginsWith nfa.now prefix.now }
+    ensures { IfOk result (λ found. IfSome found (AdmitsMatches nfa.now)) }
 {
     if prefix.len() < MIN_LEVELS {
         Levels::new(alloc, nfa)
     } else {
-        Ok(None)
+        Levels::of_prefix(alloc, prefix)
     }
 }
 

@@ -2,7 +2,7 @@
 use Rattle.std.proofs.lemmas.List.{get_or-take, length-map, length-take}
 use Rattle.nfa_paths.proofs.Common.{◌≡◌, ◌∙◌, ◌<◌, ◌≤◌, In, [], ap, arith, length, length-set, node_of, refl, subst, sym, take}
 use Rattle.nfa_prefix.specs.Reached.{Reach}
-use Rattle.nfa_prefix.proofs.FewLemmas.{some-then}
+use Rattle.nfa_prefix.proofs.NeedleLemmas.{ok-some-then}
 use Rattle.nfa_prefix.proofs.LevelLemmas.{climb-admits, climb-more, climb-none}
 use Rattle.nfa_prefix.proofs.levels.Levels.new.Goals as goal
 
@@ -33,9 +33,9 @@ returns-then-not-is_full c =
     let levels = c.loop-count.levels in
     let count = c.loop-count.count in
     let within : count ≤ length levels = omega (arith, c.loop-count.invariant.many, c.loop-count-test.true) in
-    some-then c.if_rare.result
+    ok-some-then c.if_rare.result
     (λ l admits.
-    climb-admits c.args.nfa.now levels (take count levels) count c.loop-count.here.states l.ladder
+    climb-admits c.args.nfa.now levels (take count levels) count c.loop-count.here.states l
     (omega (arith, length-take count levels, within)) (λ t less. get_or-take count levels t [] less)
     c.loop-count.invariant.climb admits)
     c.if_rare.ensures
@@ -45,8 +45,8 @@ returns c =
     let levels = c.loop-count.levels in
     let count : c.loop-count.count ≡ 8 = omega (arith, c.loop-count-test.false) in
     let within : length levels ≡ c.loop-count.count = omega (arith, c.loop-count.invariant.many) in
-    some-then c.if_rare-2.result
+    ok-some-then c.if_rare-2.result
     (λ l admits.
-    climb-admits c.args.nfa.now levels levels c.loop-count.count c.loop-count.here.states l.ladder within
+    climb-admits c.args.nfa.now levels levels c.loop-count.count c.loop-count.here.states l within
     (λ t less. refl) c.loop-count.invariant.climb admits)
     c.if_rare-2.ensures

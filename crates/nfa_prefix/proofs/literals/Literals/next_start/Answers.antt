@@ -1,9 +1,9 @@
 -- No match starts before the bytes that each match begins with, or may begin with, or before the line of a byte that
 -- each match has.
 use Rattle.nfa_paths.proofs.Common.{◌<◌, ◌≤◌, All, IfSome, arith, length, search_of, subst}
+use Rattle.nfa_engines.specs.StartLaws.{IsFirstStart}
 use Rattle.nfa_prefix.specs.Levels.{AdmitsMatches}
 use Rattle.nfa_prefix.specs.RequiredBytes.{IsRequired}
-use Rattle.nfa_prefix.specs.declared.levels.Levels.{Levels}
 use Rattle.nfa_prefix.proofs.FewLemmas.{none-then, others-passed, some-then}
 use Rattle.nfa_prefix.proofs.LevelLemmas.{first-to-admitted, nothing-admitted}
 use Rattle.nfa_prefix.proofs.literals.Literals.next_start.Goals as goal
@@ -12,11 +12,11 @@ pub returns-in-None-clause-first : goal.returns-in-None-clause-first
 returns-in-None-clause-first c =
     let x = search_of c.args.input.now in
     let fits : c.args.input.now.span.end ≤ length c.args.input.now.haystack.now = omega arith in
-    let small : All (λ b. b < 256) x.haystack = rw c.haystack-haystack.ensures at c.next.ensures.bytes in
-    others-passed c.args.nfa.now x c.args.self.now.first c.args.from c.next.result
-    c.bytes_may_be_skipped.ensures.nothing c.requires.of.among fits small c.requires.first c.next.ensures.onward
-    (rw c.end-end.ensures.value at c.next.ensures.within)
-    (rw c.haystack-haystack.ensures at c.next.ensures.lacks)
+    let small : All (λ b. b < 256) x.haystack = rw c.haystack-haystack.ensures at c.next-at.ensures.bytes in
+    others-passed c.args.nfa.now x c.args.self.now.first c.args.from c.next-at.result
+    c.bytes_may_be_skipped.ensures.nothing c.requires.of.among fits small c.requires.first c.next-at.ensures.onward
+    (rw c.end-end.ensures.value at c.next-at.ensures.within)
+    (rw c.haystack-haystack.ensures at c.next-at.ensures.lacks)
 
 pub returns-then-not-is_empty-clause-nothing : goal.returns-then-not-is_empty-clause-nothing
 returns-then-not-is_empty-clause-nothing c =
@@ -42,22 +42,36 @@ pub returns-in-Some-required-clause-nothing : goal.returns-in-Some-required-clau
 returns-in-Some-required-clause-nothing c =
     let nfa = c.args.nfa.now in
     let x = search_of c.args.input.now in
+    let fits : c.args.input.now.span.end ≤ length c.args.input.now.haystack.now = omega arith in
+    let small : All (λ b. b < 256) x.haystack = rw c.haystack-haystack.ensures at c.next-at.ensures.bytes in
+    let first : IsFirstStart nfa x c.next-at.result =
+    others-passed c.args.nfa.now x c.args.self.now.first c.args.from c.next-at.result
+    c.bytes_may_be_skipped.ensures.nothing c.requires.of.among fits small c.requires.first c.next-at.ensures.onward
+    (rw c.end-end.ensures.value at c.next-at.ensures.within)
+    (rw c.haystack-haystack.ensures at c.next-at.ensures.lacks) in
     let required : IsRequired nfa c.in-Some-required.required =
     subst (λ o. IfSome o (IsRequired nfa)) c.in-Some-required.is c.requires.of.has in
     none-then c.first_start-in-Some-required.result
-    (λ lacks. c.no_match_without_required_bytes.ensures nfa x c.in-Some-required.required c.args.from
-    c.requires.unbound required c.requires.first lacks)
+    (λ lacks. c.no_match_without_required_bytes.ensures nfa x c.in-Some-required.required c.next-at.result
+    c.requires.unbound required first lacks)
     (rw c.haystack-haystack.ensures at (rw c.end-end.ensures.value at c.first_start-in-Some-required.ensures.nowhere))
 
 pub returns-in-Some-required-clause-first : goal.returns-in-Some-required-clause-first
 returns-in-Some-required-clause-first c =
     let nfa = c.args.nfa.now in
     let x = search_of c.args.input.now in
+    let fits : c.args.input.now.span.end ≤ length c.args.input.now.haystack.now = omega arith in
+    let small : All (λ b. b < 256) x.haystack = rw c.haystack-haystack.ensures at c.next-at.ensures.bytes in
+    let first : IsFirstStart nfa x c.next-at.result =
+    others-passed c.args.nfa.now x c.args.self.now.first c.args.from c.next-at.result
+    c.bytes_may_be_skipped.ensures.nothing c.requires.of.among fits small c.requires.first c.next-at.ensures.onward
+    (rw c.end-end.ensures.value at c.next-at.ensures.within)
+    (rw c.haystack-haystack.ensures at c.next-at.ensures.lacks) in
     let required : IsRequired nfa c.in-Some-required.required =
     subst (λ o. IfSome o (IsRequired nfa)) c.in-Some-required.is c.requires.of.has in
     some-then c.first_start-in-Some-required.result
     (λ at lacks. c.starts_without_required_bytes_may_be_passed.ensures.moves nfa x c.in-Some-required.required
-    c.args.from at required c.requires.first lacks)
+    c.next-at.result at required first lacks)
     (rw c.haystack-haystack.ensures at (rw c.end-end.ensures.value at c.first_start-in-Some-required.ensures.passed))
 
 pub returns-in-Some-clause-nothing : goal.returns-in-Some-clause-nothing
@@ -66,10 +80,10 @@ returns-in-Some-clause-nothing c =
     let x = search_of c.args.input.now in
     let fits : c.args.input.now.span.end ≤ length c.args.input.now.haystack.now = omega arith in
     let small : All (λ b. b < 256) x.haystack = rw c.haystack-haystack.ensures at c.first_start.ensures.bytes in
-    let admits : AdmitsMatches nfa c.in-Some.levels.ladder =
-    subst (λ o. IfSome o (λ (l : Levels). AdmitsMatches nfa l.ladder)) c.in-Some.is c.requires.of.levels in
+    let admits : AdmitsMatches nfa c.in-Some.levels =
+    subst (λ o. IfSome o (AdmitsMatches nfa)) c.in-Some.is c.requires.of.levels in
     none-then c.first_start.result
-    (λ none. nothing-admitted nfa x c.in-Some.levels.ladder admits fits small c.requires.unbound c.args.from
+    (λ none. nothing-admitted nfa x c.in-Some.levels admits fits small c.requires.unbound c.args.from
     c.requires.first none)
     (rw c.haystack-haystack.ensures at (rw c.end-end.ensures.value at c.first_start.ensures.nowhere))
 
@@ -79,8 +93,8 @@ returns-in-Some-clause-first c =
     let x = search_of c.args.input.now in
     let fits : c.args.input.now.span.end ≤ length c.args.input.now.haystack.now = omega arith in
     let small : All (λ b. b < 256) x.haystack = rw c.haystack-haystack.ensures at c.first_start.ensures.bytes in
-    let admits : AdmitsMatches nfa c.in-Some.levels.ladder =
-    subst (λ o. IfSome o (λ (l : Levels). AdmitsMatches nfa l.ladder)) c.in-Some.is c.requires.of.levels in
+    let admits : AdmitsMatches nfa c.in-Some.levels =
+    subst (λ o. IfSome o (AdmitsMatches nfa)) c.in-Some.is c.requires.of.levels in
     some-then c.first_start.result
-    (λ at none. first-to-admitted nfa x c.in-Some.levels.ladder admits fits small c.args.from at c.requires.first none)
+    (λ at none. first-to-admitted nfa x c.in-Some.levels admits fits small c.args.from at c.requires.first none)
     (rw c.haystack-haystack.ensures at (rw c.end-end.ensures.value at c.first_start.ensures.passed))
