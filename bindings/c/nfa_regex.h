@@ -6,8 +6,8 @@
  *     used. C does not write its fields.
  *   - What a function writes (handle, match, offset, slots, marks, texts, counts) overlaps nothing else that it is
  *     given. `from` and `to` are two handles.
- *   - One call at a time is made on a handle, and a handle stays on the thread that made it. Another thread makes its
- *     own.
+ *   - One call at a time is made on a handle. Any thread may make it: between the calls of two threads there is a lock,
+ *     the start or the join of one of them, or a sequentially consistent atomic.
  *   - malloc, realloc and free are of one allocator, and align to 16 bytes. No call is made from a signal handler, or
  *     in the child of a fork of a program with threads. */
 #ifndef NFA_REGEX_H

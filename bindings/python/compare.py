@@ -1,10 +1,12 @@
 """Compares nfa.py with `re` on random patterns and texts on which the two agree by their rules, and tests what differs.
 Prints "python: passed: N questions", or stops at the first difference. `compare.py N` asks N questions."""
 import doctest
+import gc
 import random
 import re
 import sys
 import threading
+import time
 
 import nfa
 from details import DETAILS, said
@@ -102,17 +104,6 @@ def written_cases():
     want(nfa.match('b', 'ab', ), None)
     want(nfa.search('(a)|(b)', 'b').lastindex, 2)
     want(nfa.search('a', 'a\ud800a').span(), (0, 1))
-    word, found = nfa.compile(r'\w+'), []
-    spans = word.finditer('ab c d')
-    want(next(spans).span(), (0, 2))
-    threads = [threading.Thread(target=lambda: found.append(len(word.findall('ab c d')))) for _ in range(4)]
-    # An iteration goes on in another thread.
-    threads.append(threading.Thread(target=lambda: found.append(len(list(spans)) + 1)))
-    for thread in threads:
-        thread.start()
-    for thread in threads:
-        thread.join()
-    want(found, [3] * 5)
     named = nfa.search('(?P<a>x)(?P<b>y)?(z)', '-xz')
     want((named.lastgroup, named.lastindex, named.regs), (None, 3, ((1, 3), (1, 2), (-1, -1), (2, 3))))
     want(nfa.match('(?P<a>x)', 'x').lastgroup, 'a')
@@ -144,42 +135,47 @@ def details():
             stop(text, 'is', said(text, nfa), 'and not', wanted)
 
 
-def threads_free_their_own():
-    """A handle is freed on the thread that made it, also if its pattern is dropped on another."""
-    freed, used, dropped = [], threading.Event(), threading.Event()
+def threads_meet_in_no_handle():
+    """Threads that search by one pattern have a handle each meanwhile, and all are freed with the pattern."""
+    made, freed, busy, met = [], [], set(), []
 
     class Watched(nfa._Compiled):
         def __init__(self, *given):
             super().__init__(*given)
-            self.maker = threading.get_ident()
+            made.append(id(self))
 
         def __del__(self):
             super().__del__()
-            freed.append(self.maker == threading.get_ident())
+            freed.append(id(self))
 
-    def work():
-        patterns[0].search('a')
-        used.set()
-        dropped.wait()
-        nfa.compile('for the next handle')
+        def search(self, *given):
+            met.append(id(self) in busy)
+            busy.add(id(self))
+            # Others run meanwhile.
+            time.sleep(0.001)
+            found = super().search(*given)
+            busy.discard(id(self))
+            return found
 
     compiled, nfa._Compiled = nfa._Compiled, Watched
-    patterns = [nfa.Pattern('dropped by another thread')]
-    thread = threading.Thread(target=work)
-    thread.start()
-    used.wait()
-    patterns.clear()
-    dropped.set()
-    thread.join()
+    word = nfa.Pattern(r'\w+')
+    found = word.finditer('ab c')
+    threads = [threading.Thread(target=lambda: word.findall('ab c d')) for _ in range(4)]
+    threads.append(threading.Thread(target=lambda: want(len(list(found)), 2)))
+    for thread in threads:
+        thread.start()
+    for thread in threads:
+        thread.join()
+    del word, found, threads[:], thread
     nfa._Compiled = compiled
-    nfa.Pattern('for the next handle of this one')
-    want(freed, [True] * 3)
+    gc.collect()
+    want((any(met), 2 <= len(made) <= 6, sorted(freed)), (False, True, sorted(made)))
 
 
 if __name__ == '__main__':
     asked = int(sys.argv[1]) if sys.argv[1:] else 10000
     written_cases()
     details()
-    threads_free_their_own()
+    threads_meet_in_no_handle()
     random_questions(asked)
     print(f'python: passed: {asked} questions')

@@ -10,18 +10,16 @@
 
 Patterns have the syntax of Rust's `regex`: no look-around and no back-references; `\\z` is the end; `$` does not match
 before a last line feed. An empty match is not one if the last match ends there. A pattern of str matches characters,
-and one of bytes matches bytes. Each thread that uses a pattern compiles it for itself. The flags are those of `re`.
+and one of bytes matches bytes. Threads may share a pattern. The flags are those of `re`.
 """
 import ctypes as c
 import os
 import sys
-import threading
-from itertools import accumulate, count as count_up
+from itertools import accumulate
 from operator import index
 from re import A, ASCII, DOTALL, I, IGNORECASE, M, MULTILINE, S, U, UNICODE, VERBOSE, X, RegexFlag
 from re import match as re_match
 from types import GenericAlias, MappingProxyType
-from weakref import WeakValueDictionary
 
 NOFLAG = RegexFlag(0)
 
@@ -145,7 +143,7 @@ def _flags_of(flags, is_text):
 
 
 class _Compiled:
-    """A full handle of the library, with room for the slots of its groups."""
+    """A full handle of the library, with room for the slots of its groups. It takes one call at a time."""
 
     def __init__(self, text, flags):
         self.handle = _Handle()
@@ -279,15 +277,6 @@ class Match:
         return f'<nfa.Match object; span={self.span()}, match={self.group()!r}>'
 
 
-# A thread frees its handles itself, also those of patterns that another thread has dropped: these are not alive.
-_numbers, _alive, _thread = count_up(), WeakValueDictionary(), threading.local()
-
-
-def _own_handles():
-    """The handles that this thread has made, by the number of their pattern and by what they are for."""
-    return _thread.__dict__.setdefault('handles', {})
-
-
 class Pattern:
     """A compiled pattern."""
 
@@ -308,28 +297,25 @@ class Pattern:
         for letter in re_match(r'(?:\(\?[imsx]+\))*', self._text)[0]:
             flags |= _LETTERS.get(letter, 0)
         self.flags = int(flags | (U if is_text and not flags & A else 0))
-        self._number = next(_numbers)
-        _alive[self._number] = self
+        # Handles that no call uses, on which no two threads can meet: `pop` and `append` are one step each.
+        self._free = {'search': [], 'match': [], 'fullmatch': []}
         try:
-            first = self._compiled('search')
+            first = self._compile('search')
         except ValueError:
             raise _refusal(pattern, self._text.encode(), self._flags) from None
+        self._free['search'].append(first)
         self.groups = first.count // 2 - 1
         self.groupindex = MappingProxyType(_group_names(self._text.encode(), self._flags))
 
-    def _compiled(self, how):
-        """This thread's handle for `search`, `match` or `fullmatch`."""
-        own, key = _own_handles(), (self._number, how)
-        if key not in own:
-            for dropped in [it for it in own if it[0] not in _alive]:
-                del own[dropped]
-            own[key] = self._compile(how)
-        return own[key]
-
     def _search(self, how, text, start, end):
-        """The offsets of the groups of the match between these offsets, or none. An iteration may go on in another
-        thread, and then by a handle of that."""
-        return self._compiled(how).search(text.raw, start, end)
+        """The offsets of the groups of the match between these offsets, or none. `how` is the name of a method."""
+        try:
+            compiled = self._free[how].pop()
+        except IndexError:
+            compiled = self._compile(how)
+        slots = compiled.search(text.raw, start, end)
+        self._free[how].append(compiled)
+        return slots
 
     def _compile(self, how):
         if how == 'search':

@@ -5,7 +5,7 @@ use crate::text::Text;
 use crate::{Captures, Match, RegexOf};
 use std::iter::FusedIterator;
 
-/// The searches of an iteration, with this thread's handle. An empty match is none if the last match ends there.
+/// The searches of an iteration, with a handle of its own. An empty match is none if the last match ends there.
 #[derive(Debug)]
 struct Steps<'r, 'h, T: Text + ?Sized> {
     regex: &'r RegexOf<T>,
@@ -45,7 +45,7 @@ impl<'r, 'h, T: Text + ?Sized> Steps<'r, 'h, T> {
     }
 }
 
-/// All matches, from left to right. It stays on its thread.
+/// All matches, from left to right.
 #[derive(Debug)]
 pub struct Matches<'r, 'h, T: Text + ?Sized = [u8]> {
     steps: Steps<'r, 'h, T>,
@@ -69,7 +69,7 @@ impl<'h, T: Text + ?Sized> Iterator for Matches<'_, 'h, T> {
 
 impl<T: Text + ?Sized> FusedIterator for Matches<'_, '_, T> {}
 
-/// The groups of all matches, from left to right. It stays on its thread.
+/// The groups of all matches, from left to right.
 #[derive(Debug)]
 pub struct CaptureMatches<'r, 'h, T: Text + ?Sized = [u8]> {
     steps: Steps<'r, 'h, T>,

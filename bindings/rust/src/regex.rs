@@ -26,8 +26,8 @@ pub type Regex = RegexOf<[u8]>;
 /// A compiled pattern for haystacks of the type `T`: [`Regex`] for bytes, and
 /// [`string::Regex`](crate::string::Regex).
 ///
-/// Each thread that uses it compiles it once more, at its first call, for itself: a handle of the library stays on its
-/// thread. A clone shares these handles.
+/// Threads may share it. Each search takes a handle of the library from a pool, and a search that finds none compiles
+/// the pattern once more: there are as many as there were searches at one time. Clones share the pool.
 pub struct RegexOf<T: Text + ?Sized> {
     shared: Arc<Shared<RegexHandle>>,
     pub(crate) names: Arc<[Option<String>]>,
@@ -52,7 +52,7 @@ impl<T: Text + ?Sized> RegexOf<T> {
         Ok(RegexOf { shared, names, hay: PhantomData })
     }
 
-    /// A handle of this thread.
+    /// A handle that no other call has.
     #[inline]
     pub(crate) fn handle(&self) -> Held<'_, RegexHandle> {
         self.shared.held()

@@ -22,7 +22,7 @@ use std::sync::Arc;
 pub type RegexSet = RegexSetOf<[u8]>;
 
 /// A set of patterns for haystacks of the type `T`: [`RegexSet`] for bytes, and
-/// [`string::RegexSet`](crate::string::RegexSet). Each thread compiles it once more, as a regex.
+/// [`string::RegexSet`](crate::string::RegexSet). Threads may share it, as a regex.
 pub struct RegexSetOf<T: Text + ?Sized> {
     shared: Arc<Shared<SetHandle>>,
     hay: PhantomData<fn(&T)>,

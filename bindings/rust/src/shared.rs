@@ -1,54 +1,42 @@
-//! Patterns that threads share, and the handles that each thread makes of them.
+//! Patterns that threads share, and the handles that they have of them.
 use crate::sys::{Handle, Options};
 use crate::Error;
-use std::any::Any;
-use std::cell::RefCell;
-use std::collections::HashMap;
 use std::fmt;
-use std::hash::{BuildHasherDefault, Hasher};
-use std::marker::PhantomData;
 use std::ops::{Deref, DerefMut};
-use std::sync::atomic::{AtomicU64, Ordering};
-use std::sync::{Arc, Weak};
+use std::sync::atomic::{AtomicUsize, Ordering};
+use std::sync::{Arc, Mutex, PoisonError};
 
-static NEXT: AtomicU64 = AtomicU64::new(0);
+/// How many stacks of handles there are, so that threads seldom wait for one another.
+const STACKS: usize = 8;
 
-/// The hash of a number that is counted up.
-#[derive(Default)]
-struct Counted(u64);
-
-impl Hasher for Counted {
-    fn finish(&self) -> u64 {
-        self.0
-    }
-
-    fn write(&mut self, _: &[u8]) {
-        unreachable!("only numbers are hashed");
-    }
-
-    fn write_u64(&mut self, number: u64) {
-        // The high bits differ too.
-        self.0 = number.wrapping_mul(0x9E37_79B9_7F4A_7C15);
-    }
-}
-
-/// The handles of some patterns that no call uses now, and a token that the patterns are still there.
-struct Free {
-    alive: Weak<()>,
-    handles: Vec<Box<dyn Any>>,
-}
+static NEXT: AtomicUsize = AtomicUsize::new(0);
 
 thread_local! {
-    static FREE: RefCell<HashMap<u64, Free, BuildHasherDefault<Counted>>> = RefCell::default();
+    /// The stack that this thread looks at first.
+    static OWN: usize = NEXT.fetch_add(1, Ordering::Relaxed) % STACKS;
 }
 
-/// What is the same on each thread, and makes handles of the type `H`.
+/// Handles that no call uses now. Each stack is in cache lines of its own.
+#[repr(align(128))]
+struct Stack<H>(Mutex<Vec<H>>);
+
+impl<H> Stack<H> {
+    #[inline]
+    fn pop(&self) -> Option<H> {
+        self.0.lock().unwrap_or_else(PoisonError::into_inner).pop()
+    }
+
+    #[inline]
+    fn push(&self, handle: H) {
+        self.0.lock().unwrap_or_else(PoisonError::into_inner).push(handle);
+    }
+}
+
+/// Some patterns, and handles of the type `H` that were made of them.
 pub struct Shared<H> {
-    id: u64,
-    alive: Arc<()>,
     pub patterns: Vec<String>,
     pub options: Options,
-    made: PhantomData<fn() -> H>,
+    free: [Stack<H>; STACKS],
 }
 
 impl<H> fmt::Debug for Shared<H> {
@@ -59,58 +47,50 @@ impl<H> fmt::Debug for Shared<H> {
 
 impl<H: Handle> Shared<H> {
     pub fn new(patterns: Vec<String>, options: &Options) -> Result<Arc<Shared<H>>, Error> {
-        let handle = Box::new(H::new(&patterns, options)?);
-        let id = NEXT.fetch_add(1, Ordering::Relaxed);
-        let made = Shared { id, alive: Arc::new(()), patterns, options: *options, made: PhantomData };
-        made.put_back(handle);
+        let handle = H::new(&patterns, options)?;
+        let free = std::array::from_fn(|_| Stack(Mutex::new(Vec::new())));
+        let made = Shared { patterns, options: *options, free };
+        made.own().push(handle);
         Ok(Arc::new(made))
     }
 
-    /// Takes a free handle of this thread, or makes one.
+    /// The stack of this thread.
+    #[inline]
+    fn own(&self) -> &Stack<H> {
+        // At the end of a thread there is no number.
+        &self.free[OWN.try_with(|own| *own).unwrap_or(0)]
+    }
+
+    /// Takes a free handle, or makes one.
     ///
     /// # Panics
     ///
     /// If it cannot be made, as memory is refused: the patterns have been compiled before.
     #[inline]
     pub fn held(&self) -> Held<'_, H> {
-        let free = FREE.try_with(|all| all.borrow_mut().get_mut(&self.id)?.handles.pop()).ok().flatten();
-        let handle = free.and_then(|handle| handle.downcast().ok()).unwrap_or_else(|| self.one_more());
-        Held { shared: self, handle: Some(handle) }
+        let own = self.own();
+        let handle = own.pop().unwrap_or_else(|| self.another());
+        Held { own, handle: Some(handle) }
     }
 
     #[cold]
-    fn one_more(&self) -> Box<H> {
-        // Those of patterns that other threads have dropped.
-        let _ = FREE.try_with(|all| all.borrow_mut().retain(|_, free| free.alive.strong_count() > 0));
-        Box::new(H::new(&self.patterns, &self.options).expect("memory for patterns that were compiled before"))
-    }
-}
-
-impl<H: 'static> Shared<H> {
-    #[inline]
-    fn put_back(&self, handle: Box<H>) {
-        let new = || Free { alive: Arc::downgrade(&self.alive), handles: Vec::new() };
-        // At the end of a thread there is no place for it, and it is dropped.
-        let _ = FREE.try_with(|all| all.borrow_mut().entry(self.id).or_insert_with(new).handles.push(handle));
-    }
-}
-
-impl<H> Drop for Shared<H> {
-    fn drop(&mut self) {
-        let _ = FREE.try_with(|all| all.borrow_mut().remove(&self.id));
+    fn another(&self) -> H {
+        let free = self.free.iter().find_map(Stack::pop);
+        let new = || H::new(&self.patterns, &self.options).expect("memory for patterns that were compiled before");
+        free.unwrap_or_else(new)
     }
 }
 
 /// A handle that a call or an iterator uses, and that is free again when this is dropped.
-pub struct Held<'r, H: 'static> {
-    shared: &'r Shared<H>,
+pub struct Held<'r, H> {
+    own: &'r Stack<H>,
     // None only while it is dropped.
-    handle: Option<Box<H>>,
+    handle: Option<H>,
 }
 
 impl<H> fmt::Debug for Held<'_, H> {
     fn fmt(&self, f: &mut fmt::Formatter<'_>) -> fmt::Result {
-        self.shared.fmt(f)
+        f.write_str("Held")
     }
 }
 
@@ -134,7 +114,7 @@ impl<H> Drop for Held<'_, H> {
     #[inline]
     fn drop(&mut self) {
         if let Some(handle) = self.handle.take() {
-            self.shared.put_back(handle);
+            self.own.push(handle);
         }
     }
 }

@@ -77,8 +77,8 @@ const OK: i32 = 0;
 const RANGE: i32 = -2;
 const MEMORY: i32 = -3;
 
-/// What a thread makes of patterns, to search with.
-pub trait Handle: Sized + 'static {
+/// What is made of patterns, to search with.
+pub trait Handle: Sized {
     fn new(patterns: &[String], options: &Options) -> Result<Self, Error>;
 }
 
@@ -123,12 +123,14 @@ fn text(write: impl Fn(&mut [u8]) -> (i32, usize)) -> Result<String, Error> {
 // SAFETY of all calls: a slice of Rust is never null, nor longer than `isize::MAX`; what is written is borrowed
 // mutably, so it overlaps nothing; and `&mut self` makes one call at a time.
 
-/// A full handle of one pattern, with room for the slots of its groups. Neither `Send` nor `Sync`, since it has a
-/// pointer: a handle stays on the thread that made it.
+/// A full handle of one pattern, with room for the slots of its groups.
 pub struct RegexHandle {
     raw: Raw,
     slots: Vec<usize>,
 }
+
+// SAFETY: it is proved that a handle may move to another thread. It is not `Sync`, as it has a pointer.
+unsafe impl Send for RegexHandle {}
 
 impl Drop for RegexHandle {
     fn drop(&mut self) {
@@ -196,10 +198,13 @@ impl RegexHandle {
     }
 }
 
-/// A full handle of a set. It stays on its thread, likewise.
+/// A full handle of a set.
 pub struct SetHandle {
     raw: Raw,
 }
+
+// SAFETY: as of a `RegexHandle`.
+unsafe impl Send for SetHandle {}
 
 impl Drop for SetHandle {
     fn drop(&mut self) {

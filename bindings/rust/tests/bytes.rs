@@ -140,6 +140,10 @@ fn threads() {
             });
         }
     });
+    let mut spans = regex.find_iter(b"- ab1 c2").map(|m| m.range());
+    assert_eq!(spans.next(), Some(2..5));
+    let next = std::thread::scope(|scope| scope.spawn(move || spans.next()).join().unwrap());
+    assert_eq!(next, Some(6..8));
     let sent = std::thread::spawn(move || regex.find(b"a1").map(|m| m.range())).join().unwrap();
     assert_eq!(sent, Some(0..2));
 }

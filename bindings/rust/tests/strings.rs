@@ -47,4 +47,7 @@ fn patterns_cross_threads() {
     crosses::<nfa_engines::Regex>();
     crosses::<RegexSet>();
     crosses::<RegexBuilder>();
+    fn moves<T: Send>(_: T) {}
+    let (regex, set) = (Regex::new("a").unwrap(), RegexSet::new(["a"]).unwrap());
+    moves((regex.find_iter("a"), regex.captures_iter("a"), regex.split("a"), set.matches("a")));
 }

@@ -1,3 +1,4 @@
+pub mod Crosses
 pub mod PartsSteps
 pub mod RegexSlotSteps
 pub mod SetSlotSteps

@@ -20,6 +20,7 @@ mod set_slot;
 pub mod set_why;
 mod slot;
 mod texts;
+mod threads;
 pub mod why;
 
 pub use handle::NfaRegex;

@@ -51,3 +51,6 @@ impl Slot {
         }
     }
 }
+
+// It owns its box alone, and what is in the box may move to another thread.
+unsafe impl Send for Slot {}
