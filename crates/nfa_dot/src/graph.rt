@@ -139,8 +139,8 @@ fn write_edges<W: Write>(
     close_arrow(out, open)
 }
 
-/// Writes an edge of the state of this number. It is on this arrow, which may be the one that is open. Returns the arrow
-/// that is open then.
+/// Writes an edge of the state of this number. It is on this arrow, which may be the one that is open. Returns the
+/// arrow that is open then.
 fn write_edge<W: Write>(
     out: &mut W,
     number: usize,
