@@ -5,6 +5,7 @@ use Rattle.text_lines.proofs.LineLemmas.{records-of-parts}
 use Rattle.log_extractor.specs.Printed.{extracted_lines, shown_line}
 use Rattle.log_extractor.specs.Several.{LabelledPattern}
 use Rattle.log_extractor.specs.declared.output.Output.{Output}
+use Rattle.log_extractor.specs.declared.selection.Selection.{Selection}
 
 -- These lines were taken from the text. The reader has the others left, and this holds of those that were taken.
 pub record HasTaken (Holds : List (List ℕ) → Type 0) (text : List ℕ) (input : Option (List ℕ)) : Type 0 where
@@ -34,9 +35,9 @@ module _ (P : List (List ℕ) → Type 0) where
   taken-all before input end taken = grind (arith, common_steps, end, taken)
 
 -- the same is printed of a text as of its parts
-pub printed-joined : (output : Output) (ps : List LabelledPattern) (a b : List ℕ)
-    → extracted_lines output ps (a ++ line_feed ∷ [] ++ b)
-    ≡ extracted_lines output ps (a ++ line_feed ∷ []) ++ extracted_lines output ps b
-printed-joined output ps a b =
-    ap (λ lines. flat_map (shown_line output ps) lines) (records-of-parts line_feed a b)
-    ∙ flat_map-append (shown_line output ps) (lines_of (a ++ line_feed ∷ [])) (lines_of b)
+pub printed-joined : (output : Output) (selection : Selection) (ps : List LabelledPattern) (a b : List ℕ)
+    → extracted_lines output selection ps (a ++ line_feed ∷ [] ++ b)
+    ≡ extracted_lines output selection ps (a ++ line_feed ∷ []) ++ extracted_lines output selection ps b
+printed-joined output selection ps a b =
+    ap (λ lines. flat_map (shown_line output selection ps) lines) (records-of-parts line_feed a b)
+    ∙ flat_map-append (shown_line output selection ps) (lines_of (a ++ line_feed ∷ [])) (lines_of b)

@@ -1,9 +1,10 @@
 -- A row with tabs is one line, and what is between its tabs means its texts.
 use Rattle.std.specs.List.{slice_split}
-use Rattle.nfa_paths.proofs.Common.{◌≡◌, ◌≢◌, ℕ, List, [], ◌∷◌, ◌++◌, codes, refl, arith, All, All-append, All-nil, common_steps, ◌∙◌, map, ap, append-nil, flat_map, All-cons, All-tail, ◌==◌}
+use Rattle.nfa_paths.proofs.Common.{◌≡◌, ◌≢◌, ◌↔◌, ℕ, Bool, true, false, Option, None, Some, length, sym, List, [], ◌∷◌, ◌++◌, codes, refl, arith, All, All-append, All-nil, common_steps, ◌∙◌, map, ap, append-nil, flat_map, All-cons, All-tail, ◌==◌}
 use Rattle.text_lines.specs.Lines.{carriage_return, line_feed}
-use Rattle.log_extractor.specs.Printed.{backslash, escaped, escaped_byte, tab, unescaped, members, row_text, written}
+use Rattle.log_extractor.specs.Printed.{backslash, escaped, escaped_byte, is_whole, tab, unescaped, members, row_text, written}
 use Rattle.log_extractor.specs.declared.output.Form.TheVariants.{Tabs}
+use Rattle.log_extractor.specs.declared.output.Values.{Values}
 
 abbrev pub IsClean : ℕ → Type 0
 IsClean byte = (byte ≢ tab) × (byte ≢ line_feed) × (byte ≢ carriage_return)
@@ -93,6 +94,24 @@ pub one-line : (texts : List (List ℕ)) → All HasNoEnd (row_text Tabs texts)
 one-line [] = All-nil HasNoEnd
 one-line (text ∷ texts) = All-append HasNoEnd (escaped text) (after-tabs texts) (field-no-end text) (more-no-end texts)
 
-pub members_none : (names : List (List ℕ)) → members names [] ≡ []
-members_none [] = refl
-members_none (name ∷ names) = refl
+pub members_none : (values : Values) (names : List (List ℕ)) → members values names [] ≡ []
+members_none values [] = refl
+members_none values (name ∷ names) = refl
+
+abbrev nothing : List ℕ
+nothing = []
+
+no-bytes : (length nothing == 0) ≡ true
+no-bytes = grind arith
+
+some-bytes : (c : ℕ) (cs : List ℕ) → (length (c ∷ cs) == 0) ≡ false
+some-bytes c cs = grind arith
+
+-- a text is read to its end exactly if nothing is left
+pub whole-is : (read : Option (List ℕ)) (b : Bool) → ((b ≡ true) ↔ (read ≡ Some [])) → b ≡ is_whole read
+whole-is None true both = let same = both.0 refl in absurd (cc)
+whole-is None false both = refl
+whole-is (Some []) true both = sym no-bytes
+whole-is (Some []) false both = both.1 refl ∙ sym no-bytes
+whole-is (Some (c ∷ cs)) true both = let same = both.0 refl in absurd (cc)
+whole-is (Some (c ∷ cs)) false both = sym (some-bytes c cs)

@@ -7,8 +7,11 @@ use Rattle.std.specs.declared.cmp.Ordering.{Ordering}
 use Rattle.std.specs.declared.cmp.Reverse.{Reverse}
 use Rattle.nfa_paths.specs.Common.{Bor, decimal, Vec, AllAdjacentBelow, Contains, IsDistinct, option_to_list, bytes_eq}
 use Rattle.text_lines.specs.Lines.{content, line_feed}
-use Rattle.log_extractor.specs.Several.{LabelledPattern, row_by_first}
-use Rattle.log_extractor.specs.Printed.{field_text, separator, written}
+use Rattle.log_extractor.specs.Fields.{field_text}
+use Rattle.log_extractor.specs.Selected.{row_in}
+use Rattle.log_extractor.specs.Several.{LabelledPattern}
+use Rattle.log_extractor.specs.Printed.{separator, written}
+use Rattle.log_extractor.specs.declared.selection.Selection.{Selection}
 use Rattle.log_extractor.specs.declared.output.Form.{Form}
 
 -- the text of the field of this number; none if there are no fields, or not as many
@@ -17,8 +20,8 @@ value_at column None = None
 value_at column (Some fields) = option_map field_text (slice_get fields column)
 
 -- the value of the column in the row of a line, if the line has a row
-abbrev pub value_in : List LabelledPattern → ℕ → List ℕ → List (List ℕ)
-value_in ps column line = option_to_list (value_at column (row_by_first ps (content line)))
+abbrev pub value_in : Selection → List LabelledPattern → ℕ → List ℕ → List (List ℕ)
+value_in selection ps column line = option_to_list (value_at column (row_in selection ps (content line)))
 
 -- how often the value occurs
 abbrev pub occurrences : List ℕ → List (List ℕ) → ℕ

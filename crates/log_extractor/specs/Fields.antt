@@ -1,5 +1,5 @@
 -- The columns of a pattern and the fields of a line, in the words of the reference matcher.
-use Rattle.std.specs.Prelude.{◌≡◌, ℕ, ◌+◌, List, [], ◌∷◌, drop, map, Option, None, Some, option_map, slice_range, string_bytes, ⊤}
+use Rattle.std.specs.Prelude.{◌≡◌, ℕ, ◌+◌, List, [], ◌∷◌, drop, map, Option, None, Some, option_map, slice_range, string_bytes, unwrap_or, ⊤}
 use Rattle.nfa_compiler.specs.Common.{Bor, Span, Match, Re, accept, attempt, IsMeant, IsNamed, written_span, IsOfOneText, NamesText, byte_syntax}
 use Rattle.log_extractor.specs.declared.pattern.Column.{Column}
 use Rattle.log_extractor.specs.declared.pattern.PatternError.{PatternError}
@@ -56,6 +56,10 @@ match_at_start p line = option_map (λ t. record { start = 0; trace = t }) (atte
 -- the row of a line: it has one exactly if the pattern matches it from its start
 abbrev pub row : LinePattern → List ℕ → Option (List (Option (List ℕ)))
 row p line = option_map (fields_of p line) (match_at_start p line)
+
+-- the text of a field: empty if there is none
+abbrev pub field_text : Option (List ℕ) → List ℕ
+field_text field = unwrap_or field []
 
 -- what the slices hold
 abbrev pub fields_now : List (Option (Bor (List ℕ))) → List (Option (List ℕ))

@@ -1,14 +1,20 @@
 -- What is printed of the lines of an input, and how the text of a field is written.
-use Rattle.std.specs.Prelude.{◌≡◌, ◌≢◌, ◌==◌, ◌||◌, ℕ, Bool, List, [], ◌∷◌, ◌++◌, All, Option, None, Some, codes, flat_map, is_some, length, map, unwrap_or, if◌then◌else◌}
+use Rattle.std.specs.Prelude.{◌≡◌, ◌≢◌, ◌==◌, ◌||◌, ℕ, Bool, false, List, [], ◌∷◌, ◌++◌, All, Option, None, Some, codes, flat_map, is_some, length, map, if◌then◌else◌}
 use Rattle.std.specs.List.{list_any, slice_split}
 use Rattle.std.specs.Str.Lossy.{utf8_lossy}
 use Rattle.json.specs.Print.{quoted}
+use Rattle.json.specs.Word.{after_number}
 use Rattle.text_lines.specs.Lines.{carriage_return, content, line_feed, lines_of, with_end}
-use Rattle.log_extractor.specs.Several.{LabelledPattern, shown_names, row_by_first}
+use Rattle.log_extractor.specs.Fields.{field_text}
+use Rattle.log_extractor.specs.Selected.{row_in, selected_names}
+use Rattle.log_extractor.specs.Several.{LabelledPattern}
 use Rattle.log_extractor.specs.declared.output.Form.{Form}
 use Rattle.log_extractor.specs.declared.output.Form.TheVariants.{Tabs, Commas}
 use Rattle.log_extractor.specs.declared.output.Output.{Output}
 use Rattle.log_extractor.specs.declared.output.Output.TheVariants.{Table, Rows, Objects, Rejects}
+use Rattle.log_extractor.specs.declared.output.Values.{Values}
+use Rattle.log_extractor.specs.declared.output.Values.TheVariants.{Texts, Numbers}
+use Rattle.log_extractor.specs.declared.selection.Selection.{Selection}
 
 abbrev pub tab : ℕ
 tab = 9
@@ -113,30 +119,40 @@ RowsAreReadBack =
     (text : List ℕ) (texts : List (List ℕ))
     → map unescaped (slice_split (λ byte. byte == tab) (row_text Tabs (text ∷ texts))) ≡ text ∷ texts
 
--- the text of a field: empty if there is none
-abbrev pub field_text : Option (List ℕ) → List ℕ
-field_text field = unwrap_or field []
+-- whether nothing is left of a text whose beginning was read
+abbrev pub is_whole : Option (List ℕ) → Bool
+is_whole None = false
+is_whole (Some rest) = length rest == 0
+
+-- whether the whole text is a number of JSON (RFC 8259): no number has a plus or a zero before another digit
+abbrev pub is_number : List ℕ → Bool
+is_number text = is_whole (after_number text)
+
+-- the text as a JSON value: a string, or if numbers are wanted and it is one, as it is
+abbrev pub json_value : Values → List ℕ → List ℕ
+json_value Texts text = quoted text
+json_value Numbers text = if is_number text then text else quoted text
 
 -- The name of the column, a colon and the field as a JSON value: null if there is none. Bytes that are not UTF-8 become
 -- U+FFFD.
-abbrev pub member_text : List ℕ → Option (List ℕ) → List ℕ
-member_text name None = quoted name ++ 58 ∷ codes "null"
-member_text name (Some text) = quoted name ++ 58 ∷ quoted (utf8_lossy text)
+abbrev pub member_text : Values → List ℕ → Option (List ℕ) → List ℕ
+member_text values name None = quoted name ++ 58 ∷ codes "null"
+member_text values name (Some text) = quoted name ++ 58 ∷ json_value values (utf8_lossy text)
 
-abbrev pub members : List (List ℕ) → List (Option (List ℕ)) → List (List ℕ)
-members [] fields = []
-members (name ∷ names) [] = []
-members (name ∷ names) (field ∷ fields) = member_text name field ∷ members names fields
+abbrev pub members : Values → List (List ℕ) → List (Option (List ℕ)) → List (List ℕ)
+members values [] fields = []
+members values (name ∷ names) [] = []
+members values (name ∷ names) (field ∷ fields) = member_text values name field ∷ members values names fields
 
 -- the fields as a JSON object, with commas between its members and braces around them, on a line
-abbrev pub object_line : List (List ℕ) → List (Option (List ℕ)) → List ℕ
-object_line names fields = 123 ∷ separated 44 (members names fields) ++ 125 ∷ line_feed ∷ []
+abbrev pub object_line : Values → List (List ℕ) → List (Option (List ℕ)) → List ℕ
+object_line values names fields = 123 ∷ separated 44 (members values names fields) ++ 125 ∷ line_feed ∷ []
 
 -- what is printed of a line that has these fields
 abbrev pub shown_fields : Output → List (List ℕ) → List (Option (List ℕ)) → List ℕ
 shown_fields (Table form) names fields = row_line form (map field_text fields)
 shown_fields (Rows form) names fields = row_line form (map field_text fields)
-shown_fields Objects names fields = object_line names fields
+shown_fields (Objects values) names fields = object_line values names fields
 shown_fields Rejects names fields = []
 
 -- what is printed of a line that has no fields: of rejects, the line itself
@@ -150,8 +166,9 @@ shown_as output names line None = shown_reject output line
 shown_as output names line (Some fields) = shown_fields output names fields
 
 -- what is printed of a line
-abbrev pub shown_line : Output → List LabelledPattern → List ℕ → List ℕ
-shown_line output ps line = shown_as output (shown_names ps) line (row_by_first ps (content line))
+abbrev pub shown_line : Output → Selection → List LabelledPattern → List ℕ → List ℕ
+shown_line output selection ps line =
+    shown_as output (selected_names selection ps) line (row_in selection ps (content line))
 
 -- what is printed before the lines: of a table, the names of the columns
 abbrev pub table_head : Output → List (List ℕ) → List ℕ
@@ -159,20 +176,21 @@ table_head (Table form) names = row_line form names
 table_head _ names = []
 
 -- whether one of these lines has a row
-abbrev pub has_row : List LabelledPattern → List (List ℕ) → Bool
-has_row ps lines = list_any (λ line. is_some (row_by_first ps (content line))) lines
+abbrev pub has_row : Selection → List LabelledPattern → List (List ℕ) → Bool
+has_row selection ps lines = list_any (λ line. is_some (row_in selection ps (content line))) lines
 
 -- what is printed of the lines of a text, in order
-abbrev pub extracted_lines : Output → List LabelledPattern → List ℕ → List ℕ
-extracted_lines output ps text = flat_map (shown_line output ps) (lines_of text)
+abbrev pub extracted_lines : Output → Selection → List LabelledPattern → List ℕ → List ℕ
+extracted_lines output selection ps text = flat_map (shown_line output selection ps) (lines_of text)
 
 -- what is printed of a text
-abbrev pub extracted : Output → List LabelledPattern → List ℕ → List ℕ
-extracted output ps text = table_head output (shown_names ps) ++ extracted_lines output ps text
+abbrev pub extracted : Output → Selection → List LabelledPattern → List ℕ → List ℕ
+extracted output selection ps text =
+    table_head output (selected_names selection ps) ++ extracted_lines output selection ps text
 
 -- Of a text that is cut after a line feed, the same is printed as of its two parts, one after the other.
 abbrev pub PartsAreJoined : Output → Type 0
 PartsAreJoined output =
-    (ps : List LabelledPattern) (a b : List ℕ)
-    → extracted output ps (a ++ line_feed ∷ [] ++ b)
-    ≡ extracted output ps (a ++ line_feed ∷ []) ++ extracted output ps b
+    (selection : Selection) (ps : List LabelledPattern) (a b : List ℕ)
+    → extracted output selection ps (a ++ line_feed ∷ [] ++ b)
+    ≡ extracted output selection ps (a ++ line_feed ∷ []) ++ extracted output selection ps b

@@ -2,7 +2,7 @@
 ghost use Rattle.std.specs.Prelude.{◌≡◌, IfOk, map, string_bytes};
 ghost use Rattle.log_extractor.specs.Several.{pattern_label, labels_from};
 
-use crate::output::{Form, Output};
+use crate::output::{Form, Output, Values};
 use crate::pattern::{COMBINED, LINE, SYSLOG};
 use anyhow::Result;
 use clap::{Arg, ArgAction, ArgMatches, Error};
@@ -27,6 +27,8 @@ that pattern, from 0 in the order of the arguments, or the name of its format.
 A field is the text of its group, and empty if the group took no part or the pattern has no such group. Fields are
 separated by tabs. In a field, \\t is a tab, \\n a line feed, \\r a carriage return and \\\\ a backslash, so a row is
 always one line with all its columns.
+With --types a field is a number if its whole text is one in JSON: 404 and -1.5e3 are, and 007, +1 and 1. are not.
+With --where a line has a row only if the field is the text after the first =; several conditions all have to hold.
 With --count the most frequent value is first, and those that occur as often as each other are in the order of bytes.
 A field without a text counts as an empty value.
 With --csv a field is in quotes if it is empty or has a comma, a quote or an end of a line, and its quotes are doubled.
@@ -37,6 +39,7 @@ A line is of any bytes. It ends at a line feed, and a carriage return before the
 Examples:
   log_extractor --json app.log
   log_extractor --format combined --count status access.log
+  log_extractor --where level=ERROR --columns time,message app.log
   log_extractor --csv -p '(?<user>[a-z]+): (?<said>.*)' < chat.log
 
 Status: 0, 1 if no line has a row and rows are asked for, 2 if an input cannot be read, the output cannot be written or
@@ -58,6 +61,10 @@ pub struct Arguments<'w> {
     /// The patterns, in the order in which they are tried. There is at least one.
     pub patterns: Vec<Given<'w>>,
     pub output: Output,
+    /// The columns that are shown, with commas between them; without it all are.
+    pub columns: Option<&'w str>,
+    /// What has to hold of rows.
+    pub conditions: Vec<&'w str>,
     /// The column whose values are counted, if rows are not printed.
     pub count: Option<&'w str>,
     /// Whether the output for a line is written before the next line is read.
@@ -115,6 +122,8 @@ fn push_arguments<'w>(alloc: Global, args: &mut Vec<Arg<'w>>) -> Result<(), Allo
     args.push(pattern_argument(alloc))?;
     args.push(format_argument(alloc))?;
     push_output(alloc, args)?;
+    args.push(columns_argument(alloc)?)?;
+    args.push(condition_argument(alloc))?;
     args.push(count_argument(alloc)?)?;
     args.push(files_argument(alloc))?;
     Ok(())
@@ -146,10 +155,33 @@ fn format_argument<'w>(alloc: Global) -> Arg<'w> {
 fn count_argument<'w>(alloc: Global) -> Result<Arg<'w>, AllocError> {
     let arg = Arg::new(alloc, "count")
         .long("count")
+        .visible_alias("count-by")?
         .action(ArgAction::Set)
         .value_name("COLUMN")
         .help("Print how often each value of this column occurs, and no rows");
     for_rows(arg)
+}
+
+/// The option with the columns that are shown.
+fn columns_argument<'w>(alloc: Global) -> Result<Arg<'w>, AllocError> {
+    Arg::new(alloc, "columns")
+        .long("columns")
+        .action(ArgAction::Set)
+        .value_name("COLUMN,..")
+        .help("Print only these columns, in this order")
+        .conflicts_with("rejects")?
+        .conflicts_with("count")
+}
+
+/// The option that says which rows are taken.
+fn condition_argument<'w>(alloc: Global) -> Arg<'w> {
+    Arg::new(alloc, "where")
+        .long("where")
+        .action(ArgAction::Append)
+        .value_name("COLUMN=TEXT")
+        .help(
+            "Take only rows whose field of this column is this text, or with != is not; may be given several times",
+        )
 }
 
 /// Adds the options that say what is printed.
@@ -157,6 +189,7 @@ fn push_output<'w>(alloc: Global, args: &mut Vec<Arg<'w>>) -> Result<(), AllocEr
     args.push(rows_argument(alloc)?)?;
     args.push(csv_argument(alloc)?)?;
     args.push(json_argument(alloc)?)?;
+    args.push(types_argument(alloc)?)?;
     args.push(flag(alloc, "rejects")?.help("Print the lines that have no row, and no rows"))?;
     args.push(flag(alloc, "line-buffered")?.help(
         "Write the output for a line before reading on, as to a terminal",
@@ -181,6 +214,13 @@ fn json_argument<'w>(alloc: Global) -> Result<Arg<'w>, AllocError> {
     flag(alloc, "json")?
         .help("Print a JSON object for each row")
         .conflicts_with("rejects")
+}
+
+/// The option with numbers.
+fn types_argument<'w>(alloc: Global) -> Result<Arg<'w>, AllocError> {
+    flag(alloc, "types")?
+        .help("With --json, print fields that are numbers of JSON as numbers")
+        .requires_arg("json")
 }
 
 /// Makes the option exclude those with objects and with rejects.
@@ -293,10 +333,15 @@ fn output_of(matches: &ArgMatches<'_>) -> Output {
     } else {
         Form::Tabs
     };
+    let values = if matches.get_flag("types") {
+        Values::Numbers
+    } else {
+        Values::Texts
+    };
     if matches.get_flag("rejects") {
         Output::Rejects
     } else if matches.get_flag("json") {
-        Output::Objects
+        Output::Objects(values)
     } else if matches.get_flag("rows") {
         Output::Rows(form)
     } else {
@@ -306,21 +351,28 @@ fn output_of(matches: &ArgMatches<'_>) -> Output {
 
 fn read_matches<'w>(alloc: Global, matches: &ArgMatches<'w>) -> Result<Arguments<'w>> {
     let patterns = patterns_of(alloc, matches)?;
-    let files = files_of(alloc, matches)?;
+    let files = strs_of(alloc, matches, "files")?;
+    let conditions = strs_of(alloc, matches, "where")?;
     Ok(Arguments {
         patterns,
         output: output_of(matches),
+        columns: matches.get_str("columns"),
+        conditions,
         count: matches.get_str("count"),
         line_buffered: matches.get_flag("line-buffered"),
         files,
     })
 }
 
-/// Returns the names of the files, in order.
-fn files_of<'w>(alloc: Global, matches: &ArgMatches<'w>) -> Result<Vec<&'w str>, AllocError> {
-    let mut files = Vec::new(alloc);
-    if let Some(words) = matches.get_strs("files") {
-        files.extend_from_slice(words)?;
+/// Returns the values of the argument of this name, in order.
+fn strs_of<'w>(
+    alloc: Global,
+    matches: &ArgMatches<'w>,
+    name: &str,
+) -> Result<Vec<&'w str>, AllocError> {
+    let mut values = Vec::new(alloc);
+    if let Some(words) = matches.get_strs(name) {
+        values.extend_from_slice(words)?;
     }
-    Ok(files)
+    Ok(values)
 }

@@ -12,8 +12,8 @@ ghost use Rattle.log_extractor.specs.Several.{AreLinePatterns, LabelledPattern};
 use crate::field::append_text;
 use crate::names::is_name;
 use crate::output::Form;
-use crate::parsers::Parsers;
 use crate::row::separator;
+use crate::rows::Rows;
 use std::alloc::{AllocError, Global};
 use std::cmp::Reverse;
 use std::collections::BTreeMap;
@@ -53,22 +53,22 @@ pub fn column_named(names: &[String], name: &str) -> Option<usize>
 /// The input is read a line at a time, so the memory is bounded by the longest line and the values that differ.
 pub fn count_lines<R: BufRead>(
     alloc: Global,
-    parsers: &mut Parsers<'_>,
+    rows: &mut Rows<'_, '_>,
     column: usize,
     input: &mut R,
     counts: &mut Counts,
 ) -> Result<(), Failure>
-    ensures counted { OnOk result ((ps : List LabelledPattern) → AreLinePatterns parsers.old ps
+    ensures counted { OnOk result ((ps : List LabelledPattern) → AreLinePatterns rows.old.parsers ps
         → (values : List (List ℕ)) → IsTally values counts.old → IfSome (R.remaining input.old)
-        (λ text. IsTally (values ++ flat_map (value_in ps column) (lines_of text)) counts.new)) }
-    ensures kept { parsers.new ≡ parsers.old }
+        (λ text. IsTally (values ++ flat_map (value_in rows.old.selection ps column) (lines_of text)) counts.new)) }
+    ensures kept { rows.new ≡ rows.old }
 {
     let mut line = Vec::new(alloc);
     for before in 0..u64::MAX {
         if !read_line(input, before + 1, &mut line)? {
             return Ok(());
         }
-        count_one(alloc, parsers, column, &line, before + 1, counts)?;
+        count_one(alloc, rows, column, &line, before + 1, counts)?;
     }
     Err(Failure::TooLong)
 }
@@ -77,18 +77,18 @@ pub fn count_lines<R: BufRead>(
 /// number, from 1.
 fn count_one(
     alloc: Global,
-    parsers: &mut Parsers<'_>,
+    rows: &mut Rows<'_, '_>,
     column: usize,
     line: &[u8],
     number: u64,
     counts: &mut Counts,
 ) -> Result<(), Failure>
-    ensures counted { OnOk result ((ps : List LabelledPattern) → AreLinePatterns parsers.old ps
+    ensures counted { OnOk result ((ps : List LabelledPattern) → AreLinePatterns rows.old.parsers ps
         → (values : List (List ℕ)) → IsTally values counts.old
-        → IsTally (values ++ value_in ps column line.now) counts.new) }
-    ensures kept { parsers.new ≡ parsers.old }
+        → IsTally (values ++ value_in rows.old.selection ps column line.now) counts.new) }
+    ensures kept { rows.new ≡ rows.old }
 {
-    let Ok(row) = parsers.parse_line(content(line)) else {
+    let Ok(row) = rows.row_of(alloc, content(line)) else {
         return Err(Failure::Line(number));
     };
     let Some(value) = value_at(&row, column) else {

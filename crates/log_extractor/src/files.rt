@@ -2,8 +2,8 @@
 use crate::command::Arguments;
 use crate::count::{Counts, count_lines, no_counts, print_count_head, print_counts};
 use crate::output::{Form, Output};
-use crate::parsers::Parsers;
 use crate::report::{print_head, print_lines};
+use crate::rows::Rows;
 use std::alloc::Global;
 use std::io::{BufRead, BufReader, BufWriter, IsTerminal, Read, Write};
 use std::{fs, io};
@@ -55,18 +55,18 @@ pub fn inputs_of<'a, 'w>(arguments: &'a Arguments<'w>) -> &'a [&'w str] {
 /// next one is read. The error is one of the output, or of memory.
 pub fn print_all(
     rt: &HostRuntime,
-    parsers: &mut Parsers<'_>,
+    rows: &mut Rows<'_, '_>,
     arguments: &Arguments<'_>,
     column: Option<usize>,
 ) -> Result<Printed, Failure> {
     if arguments.line_buffered || rt.stdout().is_terminal() {
         // The output for a line is written by one call.
-        return print_to(rt, parsers, arguments, column, &mut io::writer(rt));
+        return print_to(rt, rows, arguments, column, &mut io::writer(rt));
     }
     let Ok(mut out) = BufWriter::new(rt.alloc(), io::writer(rt)) else {
         return Err(Failure::Memory);
     };
-    let printed = print_to(rt, parsers, arguments, column, &mut out)?;
+    let printed = print_to(rt, rows, arguments, column, &mut out)?;
     match out.flush() {
         Ok(()) => Ok(printed),
         Err(error) => Err(Failure::Write(error)),
@@ -76,14 +76,14 @@ pub fn print_all(
 /// The same, to this writer.
 fn print_to<W: Write>(
     rt: &HostRuntime,
-    parsers: &mut Parsers<'_>,
+    rows: &mut Rows<'_, '_>,
     arguments: &Arguments<'_>,
     column: Option<usize>,
     out: &mut W,
 ) -> Result<Printed, Failure> {
     let output = arguments.output;
     if column.is_none() {
-        print_head(rt.alloc(), parsers, output, out)?;
+        print_head(rt.alloc(), rows, output, out)?;
     }
     let mut work = Work {
         output,
@@ -91,7 +91,7 @@ fn print_to<W: Write>(
         counts: no_counts(rt.alloc()),
         rows: false,
     };
-    let complete = print_each(rt, parsers, &mut work, inputs_of(arguments), out)?;
+    let complete = print_each(rt, rows, &mut work, inputs_of(arguments), out)?;
     if let Some(name) = arguments.count {
         print_counted(rt, output, name, &work.counts, out)?;
     }
@@ -126,7 +126,7 @@ fn print_counted<W: Write>(
         }
         Output::Rows(form) => form,
         // These exclude counts.
-        Output::Objects | Output::Rejects => Form::Tabs,
+        Output::Objects(_) | Output::Rejects => Form::Tabs,
     };
     print_counts(rt.alloc(), form, counts, out)
 }
@@ -134,14 +134,14 @@ fn print_counted<W: Write>(
 /// Does what is to be done with the lines of these inputs. Returns whether each was read to its end.
 fn print_each<W: Write>(
     rt: &HostRuntime,
-    parsers: &mut Parsers<'_>,
+    rows: &mut Rows<'_, '_>,
     work: &mut Work,
     names: &[&str],
     out: &mut W,
 ) -> Result<bool, Failure> {
     let mut complete = true;
     for name in names {
-        if let Err(error) = print_named(rt, parsers, work, name, out) {
+        if let Err(error) = print_named(rt, rows, work, name, out) {
             if !error.is_of_input() {
                 return Err(error);
             }
@@ -164,16 +164,16 @@ fn tell(rt: &HostRuntime, name: &str, error: &Failure) {
 /// Does what is to be done with the lines of the input of this name.
 fn print_named<W: Write>(
     rt: &HostRuntime,
-    parsers: &mut Parsers<'_>,
+    rows: &mut Rows<'_, '_>,
     work: &mut Work,
     name: &str,
     out: &mut W,
 ) -> Result<(), Failure> {
     if name == "-" {
-        return work_on(rt.alloc(), parsers, work, rt.reader(), out);
+        return work_on(rt.alloc(), rows, work, rt.reader(), out);
     }
     match fs::open(rt, name) {
-        Ok(file) => work_on(rt.alloc(), parsers, work, file, out),
+        Ok(file) => work_on(rt.alloc(), rows, work, file, out),
         Err(error) => Err(Failure::Read(error)),
     }
 }
@@ -181,7 +181,7 @@ fn print_named<W: Write>(
 /// Does what is to be done with the lines of this input, which is read through a buffer.
 fn work_on<R: Read + Drop, W: Write>(
     alloc: Global,
-    parsers: &mut Parsers<'_>,
+    rows: &mut Rows<'_, '_>,
     work: &mut Work,
     input: R,
     out: &mut W,
@@ -189,25 +189,25 @@ fn work_on<R: Read + Drop, W: Write>(
     let Ok(mut input) = BufReader::new(alloc, input) else {
         return Err(Failure::Memory);
     };
-    work_on_lines(alloc, parsers, work, &mut input, out)
+    work_on_lines(alloc, rows, work, &mut input, out)
 }
 
 /// Does what is to be done with the lines of this input.
 fn work_on_lines<R: BufRead, W: Write>(
     alloc: Global,
-    parsers: &mut Parsers<'_>,
+    rows: &mut Rows<'_, '_>,
     work: &mut Work,
     input: &mut R,
     out: &mut W,
 ) -> Result<(), Failure> {
     match work.column {
         Some(column) => {
-            count_lines(alloc, parsers, column, input, &mut work.counts)?;
+            count_lines(alloc, rows, column, input, &mut work.counts)?;
             work.rows = !work.counts.is_empty();
         }
         None => {
-            let rows = print_lines(alloc, parsers, work.output, input, out)?;
-            work.rows |= rows;
+            let found = print_lines(alloc, rows, work.output, input, out)?;
+            work.rows |= found;
         }
     }
     Ok(())

@@ -1,6 +1,7 @@
 //! Prints the fields of log lines from files, or from standard input.
 #![tactic(auto)]
 
+mod asked;
 mod command;
 mod count;
 mod field;
@@ -13,14 +14,18 @@ mod parsers;
 mod pattern;
 mod report;
 mod row;
+mod rows;
+mod selection;
 
+use crate::asked::{AskedError, column_of, selection_of};
 use crate::command::{Arguments, Command, Given, help_below, labels_of, parse, split};
-use crate::count::column_named;
 use crate::files::{Printed, inputs_of, print_all};
 use crate::names::has_name;
 use crate::parser::Parser;
 use crate::parsers::{LABEL, LabelledParser, Parsers};
 use crate::pattern::PatternError;
+use crate::rows::Rows;
+use crate::selection::Selection;
 use anyhow::Result;
 use clap::Error;
 use clap::error::ErrorKind;
@@ -90,7 +95,7 @@ fn status_of(error: &Error) -> u8 {
 fn extract(rt: &HostRuntime, arguments: &Arguments<'_>) -> Result<ExitCode> {
     let labels = labels_of(rt.alloc(), &arguments.patterns)?;
     match parsers_of(rt.alloc(), &arguments.patterns, &labels)? {
-        Ok(mut parsers) => print_rows(rt, arguments, &mut parsers),
+        Ok(parsers) => print_selected(rt, arguments, parsers),
         Err((_, PatternError::Memory)) => Err(PatternError::Memory.into()),
         Err((_, error)) if labels.len() == 1 => Ok(ended(rt, error, FAILED)),
         Err((label, error)) => Ok(ended(rt, format_args!("pattern {label}: {error}"), FAILED)),
@@ -114,21 +119,48 @@ fn parsers_of<'p>(
     Ok(Ok(Parsers::new(alloc, parsers)?))
 }
 
-fn print_rows(
+/// Prints what is asked for of the rows by these parsers.
+fn print_selected<'w, 'p>(
     rt: &HostRuntime,
-    arguments: &Arguments<'_>,
-    parsers: &mut Parsers<'_>,
+    arguments: &Arguments<'w>,
+    parsers: Parsers<'p>,
 ) -> Result<ExitCode> {
     if has_label_twice(parsers.names()) {
         return Ok(ended(rt, NAME_TAKEN, FAILED));
     }
+    let asked = asked_of(rt.alloc(), arguments, parsers.names());
+    match asked {
+        Ok((column, selection)) => print_rows(
+            rt,
+            arguments,
+            &mut Rows { parsers, selection },
+            column,
+        ),
+        Err(AskedError::Memory) => Err(AskedError::Memory.into()),
+        Err(error) => Ok(ended(rt, error, FAILED)),
+    }
+}
+
+/// Returns the number of the column that is counted, if one is, and which rows and columns are selected.
+fn asked_of<'w>(
+    alloc: Global,
+    arguments: &Arguments<'w>,
+    names: &[String],
+) -> Result<(Option<usize>, Selection<'w>), AskedError> {
     let column = match arguments.count {
-        Some(name) => match column_named(parsers.names(), name) {
-            Some(column) => Some(column),
-            None => return Ok(ended(rt, format_args!("no column has the name {name}"), FAILED)),
-        },
+        Some(name) => Some(column_of(alloc, names, name)?),
         None => None,
     };
+    let selection = selection_of(alloc, names, &arguments.conditions, arguments.columns)?;
+    Ok((column, selection))
+}
+
+fn print_rows(
+    rt: &HostRuntime,
+    arguments: &Arguments<'_>,
+    rows: &mut Rows<'_, '_>,
+    column: Option<usize>,
+) -> Result<ExitCode> {
     if let Some(name) = first_output(rt, inputs_of(arguments)) {
         return Ok(ended(
             rt,
@@ -136,7 +168,7 @@ fn print_rows(
             FAILED,
         ));
     }
-    status_after(print_all(rt, parsers, arguments, column))
+    status_after(print_all(rt, rows, arguments, column))
 }
 
 /// Returns the status after all was printed, or printing failed.

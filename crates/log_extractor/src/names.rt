@@ -98,7 +98,7 @@ fn field_named<'l>(
 }
 
 /// Returns the field of this number, or `None` if there are not as many.
-fn field_at<'l>(fields: &[Option<&'l [u8]>], number: usize) -> Option<&'l [u8]>
+pub fn field_at<'l>(fields: &[Option<&'l [u8]>], number: usize) -> Option<&'l [u8]>
     ensures { option_map (λ text. text.now) result ≡ field_at (fields_now fields.now) number }
 {
     *fields.get(number)?

@@ -9,6 +9,15 @@ pub enum Form {
     Commas,
 }
 
+/// What the values of JSON objects are.
+#[derive(Clone, Copy)]
+pub enum Values {
+    /// Strings.
+    Texts,
+    /// Numbers, where the text of a field is one, and else strings.
+    Numbers,
+}
+
 /// What is printed of an input.
 #[derive(Clone, Copy)]
 pub enum Output {
@@ -17,7 +26,7 @@ pub enum Output {
     /// The rows only.
     Rows(Form),
     /// The rows as JSON objects.
-    Objects,
+    Objects(Values),
     /// The lines that have no row, as they are.
     Rejects,
 }

@@ -3,16 +3,18 @@ ghost use Rattle.std.specs.Prelude.{◌≡◌, ◌++◌, IfOk, IfSome, List, OnO
 ghost use Rattle.std.specs.Io.KnownBytes.{Appends};
 ghost use Rattle.text_lines.specs.Lines.{content, lines_of};
 ghost use Rattle.log_extractor.specs.Fields.{fields_now};
-ghost use Rattle.log_extractor.specs.Several.{AreLinePatterns, LabelledPattern, shown_names, row_by_first};
+ghost use Rattle.log_extractor.specs.Selected.{row_in, selected_names};
+ghost use Rattle.log_extractor.specs.Several.{AreLinePatterns, LabelledPattern};
 ghost use Rattle.log_extractor.specs.Printed.{PartsAreJoined, table_head, extracted_lines, has_row, shown_line};
 ghost use Rattle.log_extractor.specs.Printed.{shown_as, shown_fields, shown_reject};
 ghost use Rattle.log_extractor.specs.declared.output.Form.{Form};
 ghost use Rattle.log_extractor.specs.declared.output.Output.TheVariants as output;
+ghost use Rattle.log_extractor.specs.declared.output.Values.{Values};
 
 use crate::object::append_object;
 use crate::output::Output;
-use crate::parsers::Parsers;
 use crate::row::{append_names, append_row};
+use crate::rows::Rows;
 use std::alloc::{AllocError, Global};
 use std::io::{BufRead, Write};
 use text_lines::failure::Failure;
@@ -23,22 +25,22 @@ use text_lines::stream::{read_line, write_bytes};
 /// of a log can be printed side by side, each by a process of its own.
 pub fn parts_are_joined()
     ensures rows { (form : Form) → PartsAreJoined (output.Rows form) }
-    ensures objects { PartsAreJoined output.Objects }
+    ensures objects { (values : Values) → PartsAreJoined (output.Objects values) }
     ensures rejects { PartsAreJoined output.Rejects }
 {}
 
 /// Prints what comes before the lines of all inputs.
 pub fn print_head<W: Write>(
     alloc: Global,
-    parsers: &Parsers<'_>,
+    rows: &Rows<'_, '_>,
     output: Output,
     out: &mut W,
 ) -> Result<(), Failure>
-    ensures { OnOk result ((ps : List LabelledPattern) → AreLinePatterns parsers.now ps
-        → Appends (W.contents out.old) (W.contents out.new) (table_head output (shown_names ps))) }
+    ensures { OnOk result ((ps : List LabelledPattern) → AreLinePatterns rows.now.parsers ps
+        → Appends (W.contents out.old) (W.contents out.new) (table_head output (selected_names rows.now.selection ps))) }
 {
     let mut names = Vec::new(alloc);
-    append_head(output, parsers.names(), &mut names)?;
+    append_head(output, rows.names(), &mut names)?;
     write_bytes(out, &names)
 }
 
@@ -48,7 +50,7 @@ fn append_head(output: Output, names: &[String], out: &mut Vec<u8>) -> Result<()
 {
     match output {
         Output::Table(form) => append_names(form, names, out),
-        Output::Rows(_) | Output::Objects | Output::Rejects => Ok(()),
+        Output::Rows(_) | Output::Objects(_) | Output::Rejects => Ok(()),
     }
 }
 
@@ -59,30 +61,30 @@ fn append_head(output: Output, names: &[String], out: &mut Vec<u8>) -> Result<()
 /// longest line and what is printed of it.
 pub fn print_lines<R: BufRead, W: Write>(
     alloc: Global,
-    parsers: &mut Parsers<'_>,
+    rows: &mut Rows<'_, '_>,
     output: Output,
     input: &mut R,
     out: &mut W,
 ) -> Result<bool, Failure>
-    ensures printed { OnOk result ((ps : List LabelledPattern) → AreLinePatterns parsers.old ps
+    ensures printed { OnOk result ((ps : List LabelledPattern) → AreLinePatterns rows.old.parsers ps
         → IfSome (R.remaining input.old) (λ text.
-        Appends (W.contents out.old) (W.contents out.new) (extracted_lines output ps text))) }
-    ensures rows { IfOk result (λ rows. (ps : List LabelledPattern) → AreLinePatterns parsers.old ps
-        → IfSome (R.remaining input.old) (λ text. rows ≡ has_row ps (lines_of text))) }
-    ensures kept { parsers.new ≡ parsers.old }
+        Appends (W.contents out.old) (W.contents out.new) (extracted_lines output rows.old.selection ps text))) }
+    ensures rows { IfOk result (λ found. (ps : List LabelledPattern) → AreLinePatterns rows.old.parsers ps
+        → IfSome (R.remaining input.old) (λ text. found ≡ has_row rows.old.selection ps (lines_of text))) }
+    ensures kept { rows.new ≡ rows.old }
 {
     let mut line = Vec::new(alloc);
     let mut shown = Vec::new(alloc);
-    let mut rows = false;
+    let mut found = false;
     for before in 0..u64::MAX {
         shown.clear();
         if !read_line(input, before + 1, &mut line)? {
-            return Ok(rows);
+            return Ok(found);
         }
-        let Ok(row) = append_line(alloc, parsers, output, &line, &mut shown) else {
+        let Ok(row) = append_line(alloc, rows, output, &line, &mut shown) else {
             return Err(Failure::Line(before + 1));
         };
-        rows |= row;
+        found |= row;
         write_bytes(out, &shown)?;
     }
     Err(Failure::TooLong)
@@ -91,19 +93,19 @@ pub fn print_lines<R: BufRead, W: Write>(
 /// Appends what is printed of the line, which may have its end. Returns whether it has a row.
 fn append_line(
     alloc: Global,
-    parsers: &mut Parsers<'_>,
+    rows: &mut Rows<'_, '_>,
     output: Output,
     line: &[u8],
     out: &mut Vec<u8>,
 ) -> Result<bool, AllocError>
-    ensures shown { OnOk result ((ps : List LabelledPattern) → AreLinePatterns parsers.old ps
-        → out.new.items ≡ out.old.items ++ shown_line output ps line.now) }
-    ensures row { IfOk result (λ found. (ps : List LabelledPattern) → AreLinePatterns parsers.old ps
-        → found ≡ is_some (row_by_first ps (content line.now))) }
-    ensures kept { parsers.new ≡ parsers.old }
+    ensures shown { OnOk result ((ps : List LabelledPattern) → AreLinePatterns rows.old.parsers ps
+        → out.new.items ≡ out.old.items ++ shown_line output rows.old.selection ps line.now) }
+    ensures row { IfOk result (λ found. (ps : List LabelledPattern) → AreLinePatterns rows.old.parsers ps
+        → found ≡ is_some (row_in rows.old.selection ps (content line.now))) }
+    ensures kept { rows.new ≡ rows.old }
 {
-    let row = parsers.parse_line(content(line))?;
-    append_shown(alloc, output, parsers.names(), line, &row, out)?;
+    let row = rows.row_of(alloc, content(line))?;
+    append_shown(alloc, output, rows.names(), line, &row, out)?;
     Ok(row.is_some())
 }
 
@@ -138,7 +140,7 @@ fn append_fields(
 {
     match output {
         Output::Table(form) | Output::Rows(form) => append_row(form, fields, out),
-        Output::Objects => append_object(alloc, names, fields, out),
+        Output::Objects(values) => append_object(alloc, values, names, fields, out),
         Output::Rejects => Ok(()),
     }
 }
@@ -149,6 +151,6 @@ fn append_reject(output: Output, line: &[u8], out: &mut Vec<u8>) -> Result<(), A
 {
     match output {
         Output::Rejects => append_whole(line, out),
-        Output::Table(_) | Output::Rows(_) | Output::Objects => Ok(()),
+        Output::Table(_) | Output::Rows(_) | Output::Objects(_) => Ok(()),
     }
 }

@@ -1,7 +1,7 @@
 //! Rows as lines, with a byte between the fields.
 ghost use Rattle.std.specs.Prelude.{◌≡◌, ◌∷◌, ◌++◌, OnOk, flat_map, map, option_map, string_bytes};
-ghost use Rattle.log_extractor.specs.Fields.{fields_now};
-ghost use Rattle.log_extractor.specs.Printed.{RowsAreLines, RowsAreReadBack, field_text, row_line, separated};
+ghost use Rattle.log_extractor.specs.Fields.{field_text, fields_now};
+ghost use Rattle.log_extractor.specs.Printed.{RowsAreLines, RowsAreReadBack, row_line, separated};
 ghost use Rattle.log_extractor.specs.Printed.{separator, written};
 
 use crate::field::append_text;

@@ -21,14 +21,14 @@ loop-before-preserved g c =
     let line = c.read_line.new.line.items in
     record {
       counted = λ ps is values tally.
-          let value = value_in ps c.args.column in
+          let value = value_in c.args.rows.now.selection ps c.args.column in
           taken-more _ _ _ _ _ line (c.in_ok-read_line.ensures.taken (search rules)) (λ lines so-far.
           rw (
             flat_map-append value lines (line ∷ []),
             append-nil,
             ← append_assoc values (flat_map value lines) (value line),
           )
-          (rw c.deref.ensures.value at
+          (rw (c.deref.ensures.value, inv.kept) at
           (c.in_ok-count_one.ensures.counted ps (rw inv.kept is) (values ++ flat_map value lines) so-far)))
           (inv.counted ps is values tally);
       kept = search rules;

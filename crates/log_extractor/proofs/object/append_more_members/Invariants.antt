@@ -8,6 +8,6 @@ use Rattle.log_extractor.proofs.object.append_more_members.Given as goal
 
 abbrev pub invariant-loop-name : goal.invariant-loop-name
 invariant-loop-name l =
-    l.fn.out.items ++ flat_map (λ m. 44 ∷ m) (members (map string_bytes l.names) (fields_now l.fields))
-    ≡ l.out.items ++ flat_map (λ m. 44 ∷ m) (members
+    l.fn.out.items ++ flat_map (λ m. 44 ∷ m) (members l.values (map string_bytes l.names) (fields_now l.fields))
+    ≡ l.out.items ++ flat_map (λ m. 44 ∷ m) (members l.values
     (map string_bytes (iter_rest (zip_first l.name-iterator))) (fields_now (iter_rest (zip_second l.name-iterator))))

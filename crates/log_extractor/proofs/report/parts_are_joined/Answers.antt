@@ -7,7 +7,7 @@ pub returns-clause-rows : goal.returns-clause-rows
 returns-clause-rows c = λ form. printed-joined (output.Rows form)
 
 pub returns-clause-objects : goal.returns-clause-objects
-returns-clause-objects c = printed-joined output.Objects
+returns-clause-objects c = λ values. printed-joined (output.Objects values)
 
 pub returns-clause-rejects : goal.returns-clause-rejects
 returns-clause-rejects c = printed-joined output.Rejects

@@ -1,7 +1,7 @@
 -- The run goes on by a line, and ends if nothing is left to read.
 use Rattle.nfa_paths.proofs.Common.{rules, ◌≡◌, ◌||◌, ap, [], ◌∷◌, append-nil, is_some, or-false, Appends-trans, flat_map-append, list_any-append}
 use Rattle.text_lines.specs.Lines.{content}
-use Rattle.log_extractor.specs.Several.{row_by_first}
+use Rattle.log_extractor.specs.Selected.{row_in}
 use Rattle.log_extractor.specs.Printed.{shown_line}
 use Rattle.log_extractor.proofs.GoingLemmas.{taken-all, taken-more}
 use Rattle.log_extractor.proofs.report.print_lines.Goals as goal
@@ -20,20 +20,20 @@ loop-before-preserved g c =
     let line = c.read_line.new.line.items in
     record {
       printed = λ ps is.
-          let show = shown_line c.args.output ps in
+          let show = shown_line c.args.output c.args.rows.now.selection ps in
           let here : c.append_line.new.out.items ≡ show line =
-          rw (c.deref.ensures.value, c.clear.ensures.items) at (c.in-Ok.ensures.shown ps (rw inv.kept is)) in
+          rw (c.deref.ensures.value, c.clear.ensures.items, inv.kept) at (c.in-Ok.ensures.shown ps (rw inv.kept is)) in
           taken-more _ _ _ _ _ line (c.in_ok-read_line.ensures.taken (search rules)) (λ lines so-far.
           rw (flat_map-append show lines (line ∷ []), append-nil)
           (Appends-trans _ _ _ _ _ so-far
           (rw (c.deref-in-loop-before.ensures.value, here) at c.in_ok-write_bytes.ensures)))
           (inv.printed ps is);
       looked = λ ps is.
-          let here : c.in-Ok.row ≡ is_some (row_by_first ps (content line)) =
-          rw c.deref.ensures.value at (c.in-Ok.ensures.row ps (rw inv.kept is)) in
+          let here : c.in-Ok.row ≡ is_some (row_in c.args.rows.now.selection ps (content line)) =
+          rw (c.deref.ensures.value, inv.kept) at (c.in-Ok.ensures.row ps (rw inv.kept is)) in
           taken-more _ _ _ _ _ line (c.in_ok-read_line.ensures.taken (search rules)) (λ lines so-far.
-          rw (here, list_any-append (λ l. is_some (row_by_first ps (content l))) lines (line ∷ []), or-false)
-          (ap (λ rows. rows || is_some (row_by_first ps (content line))) so-far))
+          rw (here, list_any-append (λ l. is_some (row_in c.args.rows.now.selection ps (content l))) lines (line ∷ []), or-false)
+          (ap (λ found. found || is_some (row_in c.args.rows.now.selection ps (content line))) so-far))
           (inv.looked ps is);
       kept = search rules;
     }

@@ -7,10 +7,10 @@ use Rattle.log_extractor.proofs.report.print_lines.Given as goal
 
 abbrev pub invariant-loop-before : goal.invariant-loop-before
 invariant-loop-before g l = record {
-  printed : (ps : List LabelledPattern) → AreLinePatterns l.fn.parsers ps
+  printed : (ps : List LabelledPattern) → AreLinePatterns l.fn.rows.parsers ps
       → Taken (λ lines. Appends (g.W.Write.contents l.fn.out) (g.W.Write.contents l.out)
-      (flat_map (shown_line l.output ps) lines)) (g.R.Read.remaining l.fn.input) (g.R.Read.remaining l.input);
-  looked : (ps : List LabelledPattern) → AreLinePatterns l.fn.parsers ps
-      → Taken (λ lines. l.rows ≡ has_row ps lines) (g.R.Read.remaining l.fn.input) (g.R.Read.remaining l.input);
-  kept : l.parsers ≡ l.fn.parsers;
+      (flat_map (shown_line l.output l.fn.rows.selection ps) lines)) (g.R.Read.remaining l.fn.input) (g.R.Read.remaining l.input);
+  looked : (ps : List LabelledPattern) → AreLinePatterns l.fn.rows.parsers ps
+      → Taken (λ lines. l.found ≡ has_row l.fn.rows.selection ps lines) (g.R.Read.remaining l.fn.input) (g.R.Read.remaining l.input);
+  kept : l.rows ≡ l.fn.rows;
 }

@@ -1,7 +1,7 @@
 -- The fields so far were appended.
 use Rattle.std.proofs.Common.{◌≡◌, ◌∷◌, ◌++◌, map, take, flat_map}
-use Rattle.log_extractor.specs.Fields.{fields_now}
-use Rattle.log_extractor.specs.Printed.{separator, written, field_text}
+use Rattle.log_extractor.specs.Fields.{field_text, fields_now}
+use Rattle.log_extractor.specs.Printed.{separator, written}
 use Rattle.log_extractor.proofs.row.append_more.Given as goal
 
 abbrev pub invariant-loop-field : goal.invariant-loop-field
