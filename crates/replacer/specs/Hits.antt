@@ -66,15 +66,15 @@ abbrev pub captured_by : Groups → PatternHit → Captured
 captured_by groups h =
     record { groups = groups; pattern = Some h.pattern; slots = slots_of groups (slot_count groups) (Some h) }
 
--- a digit or an `n`
-abbrev pub IsAfterBackslash : ℕ → Type 0
-IsAfterBackslash byte = (byte ≡ 110) ⊎ ((48 ≤ byte) × (byte ≤ 57))
+-- a digit
+abbrev pub IsDigit : ℕ → Type 0
+IsDigit byte = (48 ≤ byte) × (byte ≤ 57)
 
--- there is an `&`, or a backslash before a digit or an `n`
+-- there is an `&`, or a backslash before a digit
 abbrev pub IsForeign : List ℕ → ℕ → Type 0
 IsForeign template at =
     (slice_index template at ≡ 38)
-    ⊎ ((slice_index template at ≡ 92) × IsAfterBackslash (slice_index template (at + 1)))
+    ⊎ ((slice_index template at ≡ 92) × IsDigit (slice_index template (at + 1)))
 
 -- there is one somewhere in the template
 pub record HasForeign (template : List ℕ) : Type 0 where

@@ -1,5 +1,6 @@
 -- What is printed for a text.
 use Rattle.std.specs.Prelude.{ℕ, ◌≡◌, ◌-◌, Bool, List, [], ◌∷◌, ◌++◌, Option, None, Some, IfSome, chars, encode_utf8_all, flat_map, length, map, option_map, take, if◌then◌else◌, true, ⊤}
+use Rattle.std.specs.Borrow.{Bor}
 use Rattle.std.specs.Io.BufRead.{ends_with_byte, strip_last}
 use Rattle.nfa_compiler.specs.Common.{Appends, Captured, Re, ReadsAsText, escaped_text, PatternHit, IsOfOneText, NamesText}
 use Rattle.text_lines.specs.Lines.{line_feed, lines_of}
@@ -60,6 +61,12 @@ pub record AreFirstOf (r : ChoiceState) (text : List ℕ) (limit : Option ℕ) (
 -- a line for each field
 abbrev pub field_lines : List (List ℕ) → List ℕ
 field_lines fields = flat_map (λ field. field ++ (10 ∷ [])) fields
+
+-- the command with this template in the place of its own, if it has one
+abbrev pub command_with : Command → Bor (List ℕ) → Command
+command_with (Replace _) template = Replace template
+command_with Split template = Split
+command_with (SplitN limit) template = SplitN limit
 
 -- The action is what the command says, for a pattern with these groups: the parts are those of the template.
 abbrev pub IsActionOf : Groups → Command → Action → Type 0

@@ -1,4 +1,7 @@
 //! What the arguments of the command line ask for.
+ghost use Rattle.std.specs.Prelude.{◌≡◌};
+ghost use Rattle.replacer.specs.Printed.{command_with};
+
 use option_values::parted::part_words;
 use option_values::words::{NotText, Word, texts};
 use std::alloc::{AllocError, Global};
@@ -21,7 +24,9 @@ Replaces the matches of a pattern in each line of the files, or splits the lines
 replace  prints the line with the template in place of each match.
 split    prints what is before, between and after the matches, a line for each field.
 splitn   prints at most LIMIT fields of a line. The last one is the rest of it.
-In TEMPLATE, $1, $name and ${name} are what a group matched, $0 is the match, and $$ is a dollar. All else stays.
+In TEMPLATE, $1, $name and ${name} are what a group matched, $0 is the match, and $$ is a dollar. There \\n is a line
+feed, \\t a tab, \\r a carriage return, \\\\ a backslash, \\x41 the byte of these two hexadecimal digits, and \\u{e9} the
+character of this number. All else stays.
 Standard input is read if there is no file, and for the file `-`.
 
 An option stands anywhere before `--`. After that no word is an option, as in `replacer replace -- -x +x`.
@@ -32,6 +37,9 @@ Options:
 -e PATTERN  is the pattern, which the command then goes without. It may begin with a hyphen.
 --whole  takes each file as one text, so that the pattern sees its line feeds.
 -n NUM   replaces only the first NUM matches of each file.
+--preview  prints only the lines that replace would change, and touches no file: the number of the line, a hyphen and the
+         line, and the number, a plus and what it becomes. On a terminal they are red and green. The name of the file is
+         before them if there are several, and standard error has the number of such lines, and of files with them.
 --in-place[=SUFFIX]  prints nothing, but puts what would be printed of each file in its place. There must be files,
          and `-` is none. All is written to a new file in its folder, NAME.replacer-0, or up to 99 if that is there.
          The new file gets the owner, the group and the permissions of the old one, and is renamed over it. With SUFFIX
@@ -67,6 +75,26 @@ pub enum Command<'w> {
     SplitN(usize),
 }
 
+impl<'w> Command<'w> {
+    /// Returns the template; an empty one if nothing is replaced.
+    pub fn template(self) -> &'w [u8] {
+        match self {
+            Command::Replace(template) => template,
+            _ => b"",
+        }
+    }
+
+    /// Returns the command with this template in the place of its own, if it has one.
+    fn with_template(self, template: &'w [u8]) -> Command<'w>
+        ensures { result ≡ command_with self.entry template.entry }
+    {
+        match self {
+            Command::Replace(_) => Command::Replace(template),
+            other => other,
+        }
+    }
+}
+
 /// A pattern, what to do at its matches, and how a text is read.
 #[derive(Clone, Copy)]
 pub struct Request<'w> {
@@ -80,6 +108,18 @@ pub struct Request<'w> {
     pub whole: bool,
     /// At most this many matches of the text are replaced, if there is a limit.
     pub limit: Option<usize>,
+}
+
+impl<'w> Request<'w> {
+    /// Returns the request with this template in the place of that of its command, if it has one.
+    pub fn with_template(self, template: &'w [u8]) -> Request<'w>
+        ensures { result ≡ record self.entry { command = command_with self.entry.command template.entry } }
+    {
+        Request {
+            command: self.command.with_template(template),
+            ..self
+        }
+    }
 }
 
 /// Where the result goes.
@@ -96,6 +136,8 @@ pub enum Target<'w> {
 pub struct Arguments<'w> {
     pub request: Request<'w>,
     pub target: Target<'w>,
+    /// Whether only the lines that change are printed, and no file is touched.
+    pub preview: bool,
     /// The names of the inputs, in order; standard input if there are none.
     pub files: Vec<&'w str>,
 }
@@ -132,6 +174,8 @@ pub enum Misuse<'w> {
     TwoPatterns,
     /// The matches to be replaced are limited, and the command replaces none.
     LimitOfFields,
+    /// Only changes are printed, and lines are split, an input is one text, or the matches to be replaced are limited.
+    NoPreview,
     /// The suffix is empty or has a slash.
     NoSuffix,
     /// Files are to be replaced, and there is none, or standard input is one.
@@ -152,6 +196,7 @@ impl fmt::Display for Misuse<'_> {
             Misuse::NoNumber(word) => write!(f, "{word} is not a number, or too large"),
             Misuse::TwoPatterns => f.write_str("-e is given twice, and there is one pattern"),
             Misuse::LimitOfFields => f.write_str("-n is for replace; splitn has a limit"),
+            Misuse::NoPreview => f.write_str("--preview is for replace, without --whole and -n"),
             Misuse::NoSuffix => f.write_str("--in-place= needs a suffix without a slash"),
             Misuse::NoFiles => f.write_str("--in-place needs the names of files, and - is none"),
         }
@@ -175,6 +220,7 @@ struct Options<'w> {
     whole: bool,
     limit: Option<usize>,
     target: Target<'w>,
+    preview: bool,
 }
 
 /// Returns what the arguments ask for, or why they are wrong. The only other error is that allocation failed.
@@ -202,7 +248,7 @@ fn work_of<'w>(
         Err(misuse) => return Ok(Err(misuse)),
     };
     match texts(alloc, files)? {
-        Ok(files) => Ok(with_files(request, options.target, files)),
+        Ok(files) => Ok(with_files(request, options, files)),
         Err(error) => Ok(Err(Misuse::NotText(error))),
     }
 }
@@ -210,17 +256,31 @@ fn work_of<'w>(
 /// Returns the work for these files. Standard input and no file have no place in which a result goes.
 fn with_files<'w>(
     request: Request<'w>,
-    target: Target<'w>,
+    options: Options<'w>,
     files: Vec<&'w str>,
 ) -> Result<Asked<'w>, Misuse<'w>> {
+    let Options {
+        target,
+        preview,
+        ..
+    } = options;
     if matches!(target, Target::Files(_)) && (files.is_empty() || files.contains(&"-")) {
         return Err(Misuse::NoFiles);
+    }
+    if preview && !is_by_line(request) {
+        return Err(Misuse::NoPreview);
     }
     Ok(Asked::Work(Arguments {
         request,
         target,
+        preview,
         files,
     }))
+}
+
+/// Returns whether all matches in each line are replaced, whatever is in other lines.
+fn is_by_line(request: Request<'_>) -> bool {
+    matches!(request.command, Command::Replace(_)) && !request.whole && request.limit.is_none()
 }
 
 /// What the next word of the options is.
@@ -244,6 +304,7 @@ fn options_of<'w>(words: &[Word<'w>]) -> Result<Options<'w>, Misuse<'w>> {
         whole: false,
         limit: None,
         target: Target::Output,
+        preview: false,
     };
     let mut next = Next::Name;
     for word in words {
@@ -279,6 +340,7 @@ fn read_name<'w>(options: &mut Options<'w>, word: &'w str) -> Result<Next, Misus
         "-F" => options.fixed = true,
         "-i" => options.ignore_case = true,
         "--whole" => options.whole = true,
+        "--preview" => options.preview = true,
         "-n" => return Ok(Next::Limit),
         "-e" => return Ok(Next::Pattern),
         "--in-place" => options.target = Target::Files(None),

@@ -2,7 +2,9 @@
 #![tactic(auto)]
 
 mod action;
+mod changes;
 mod command;
+mod escapes;
 mod fault;
 mod fields;
 mod files;
@@ -16,7 +18,8 @@ mod replace;
 mod shown;
 
 use crate::command::{Arguments, Asked, Command, HELP, Target, USAGE, VERSION, parse};
-use crate::files::print_files;
+use crate::escapes::unescaped;
+use crate::files::{Done, Printing, print_files};
 use crate::hint::{HINT, has_foreign};
 use crate::in_place::replace_files;
 use crate::job::Job;
@@ -24,7 +27,7 @@ use anyhow::Result;
 use option_values::output::{IS_OUTPUT, first_output, shown_name};
 use option_values::words::{arguments, words};
 use std::fmt::Display;
-use std::io::ErrorKind;
+use std::io::{ErrorKind, IsTerminal};
 use std::process::ExitCode;
 use text_lines::failure::Failure;
 
@@ -67,8 +70,13 @@ fn say<T: Display + Drop>(rt: &HostRuntime, text: T) -> Result<ExitCode> {
     }
 }
 
+/// Reads the escapes of the template, and compiles the pattern.
 fn run(rt: &HostRuntime, arguments: &Arguments<'_>) -> Result<ExitCode> {
-    match Job::new(rt.alloc(), arguments.request) {
+    let template = match unescaped(rt.alloc(), arguments.request.command.template()) {
+        Ok(template) => template,
+        Err(error) => return Ok(failed(rt, error)),
+    };
+    match Job::new(rt.alloc(), arguments.request.with_template(&template)) {
         Ok(mut job) => obey(rt, arguments, &mut job),
         Err(mistake) => Ok(failed(rt, mistake)),
     }
@@ -79,15 +87,34 @@ fn obey(rt: &HostRuntime, arguments: &Arguments<'_>, job: &mut Job<'_>) -> Resul
     give_hint(rt, arguments.request.command);
     let names = inputs_of(arguments);
     match arguments.target {
-        Target::Output => {
-            if let Some(name) = first_output(rt, names) {
-                let shown = shown_name(name);
-                return Ok(failed(rt, format_args!("{shown}: {IS_OUTPUT}")));
-            }
-            status_after(print_files(rt, job, names))
+        Target::Files(suffix) if !arguments.preview => {
+            status_after(Ok(replace_files(rt, job, names, suffix)))
         }
-        Target::Files(suffix) => status_after(Ok(replace_files(rt, job, names, suffix))),
+        _ => print_all(rt, job, names, arguments.preview),
     }
+}
+
+/// Prints the inputs, or their lines that change.
+fn print_all(
+    rt: &HostRuntime,
+    job: &mut Job<'_>,
+    names: &[&str],
+    preview: bool,
+) -> Result<ExitCode> {
+    if let Some(name) = first_output(rt, names) {
+        let shown = shown_name(name);
+        return Ok(failed(rt, format_args!("{shown}: {IS_OUTPUT}")));
+    }
+    if !preview {
+        return status_after(print_files(rt, job, names, Printing::Results).map(|done| done.failed));
+    }
+    let coloured = rt.stdout().is_terminal();
+    let printed = print_files(rt, job, names, Printing::Changes(coloured));
+    if let Ok(Done { lines, inputs, .. }) = printed {
+        // If that cannot be written, nothing else changes.
+        let _ = eprintln!(rt; "replacer: changed lines: {lines}, in files: {inputs}");
+    }
+    status_after(printed.map(|done| done.failed))
 }
 
 /// Says what a template may mean otherwise than its author thinks. If that cannot be written, nothing else changes.
