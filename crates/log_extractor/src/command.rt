@@ -220,7 +220,12 @@ fn json_argument<'w>(alloc: Global) -> Result<Arg<'w>, AllocError> {
 fn types_argument<'w>(alloc: Global) -> Result<Arg<'w>, AllocError> {
     flag(alloc, "types")?
         .help("With --json, print fields that are numbers of JSON as numbers")
-        .requires_arg("json")
+        // An argument that excludes --json lifts what is required.
+        .requires_arg("json")?
+        .conflicts_with("rows")?
+        .conflicts_with("csv")?
+        .conflicts_with("rejects")?
+        .conflicts_with("count")
 }
 
 /// Makes the option exclude those with objects and with rejects.
