@@ -39,52 +39,17 @@ impl DFA {
         ensures answer { let x = search_of input.now in IfSome result (λ half.
             IsHalfAnswer (nfa_of self.now) (kind_of self.now) x.earliest x (Some (half_found_of half))) }
     {
+        laws::steps_find_the_half();
         if !is_one_scan(self, input) {
             return None;
         }
         let found = known_scan(self, cache, input)?;
-        counted(self, input, found)
-    }
-
-    /// Returns the same, but `None` also where rows with a match and others take turns on the way. So all of it can be
-    /// part of the caller.
-    ///
-    /// ```
-    /// // dfa of "foo[0-9]+"
-    /// let input = Input::new(b"foo12345 ").anchored(Anchored::Yes);
-    /// assert_eq!(rt; dfa.direct_half(cache, &input), None);
-    /// let half = dfa.try_find_half(cache, input)?;
-    /// assert_eq!(rt; dfa.direct_half(cache, &input), half);
-    /// ```
-    #[inline(always)]
-    pub fn direct_half(&self, cache: &Cache, input: &Input<'_>) -> Option<HalfMatch>
-        requires { IsFor cache.now self.now }
-        ensures answer { let x = search_of input.now in IfSome result (λ half.
-            IsHalfAnswer (nfa_of self.now) (kind_of self.now) x.earliest x (Some (half_found_of half))) }
-    {
-        if !is_one_scan(self, input) {
+        let half = found?;
+        if !is_whole(self, input, half) {
             return None;
         }
-        let found = direct_scan(self, cache, input)?;
-        counted(self, input, found)
+        Some(half)
     }
-}
-
-/// The half match that the only scan of a search found, if it counts.
-#[inline(always)]
-fn counted(dfa: &DFA, input: &Input<'_>, found: Option<HalfMatch>) -> Option<HalfMatch>
-    requires one { is_utf8_empty dfa.now.nfa ≡ true → is_anchored (search_of input.now).anchored ≡ true }
-    requires found { let x = search_of input.now in
-        option_map half_found_of found ≡ scan_half dfa.now.nfa x dfa.now.kind x.earliest }
-    ensures answer { let x = search_of input.now in IfSome result (λ half.
-        IsHalfAnswer (nfa_of dfa.now) (kind_of dfa.now) x.earliest x (Some (half_found_of half))) }
-{
-    laws::steps_find_the_half();
-    let half = found?;
-    if !is_whole(dfa, input, half) {
-        return None;
-    }
-    Some(half)
 }
 
 /// Whether the answer of a search is that of its only scan: it is anchored, or a match may end anywhere.
@@ -117,21 +82,6 @@ fn known_scan(dfa: &DFA, cache: &Cache, input: &Input<'_>) -> Option<Option<Half
         return Some(place.found);
     }
     known_rest(dfa, cache, *input, place)
-}
-
-/// The same, if [`direct`] leads there.
-#[inline(always)]
-fn direct_scan(dfa: &DFA, cache: &Cache, input: &Input<'_>) -> Option<Option<HalfMatch>>
-    requires { IsFor cache.now dfa.now }
-    ensures { let x = search_of input.now in IfSome result (λ half.
-        option_map half_found_of half ≡ scan_half dfa.now.nfa x dfa.now.kind x.earliest) }
-{
-    let from = known_begin(dfa, cache, input)?;
-    let (place, over) = direct(dfa, cache, input, from);
-    if !over {
-        return None;
-    }
-    Some(place.found)
 }
 
 /// Where a scan begins, if a match may start and the row there is remembered.

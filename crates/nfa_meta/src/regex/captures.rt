@@ -65,7 +65,7 @@ impl Regex {
 
     /// Searches as [`Regex::search_captures`] does, and returns the span of the match. For a match of two slots at the
     /// likely start it copies no input.
-    #[inline(always)]
+    #[inline]
     pub(super) fn captured_span(
         &mut self,
         input: &Input<'_>,
@@ -80,7 +80,7 @@ impl Regex {
         ensures holds { HoldsNoMore 0 self.old.choice.back self.new.choice.back }
         ensures keeps { KeepsRegex self.old self.new }
     {
-        if let Some(found) = self.quick_match(input, captures.slots().len(), true) {
+        if let Some(found) = self.quick_match(input, captures.slots().len()) {
             fill_captures(found, captures);
             return Some(found.span());
         }
@@ -88,7 +88,7 @@ impl Regex {
         captures_span(captures, Ok(()))
     }
 
-    /// Searches as [`Regex::search_captures`] does, if known cells did not lead straight to the match.
+    /// Searches as [`Regex::search_captures`] does, if known cells did not lead to the match.
     // A call of its own, so that a match at the likely start costs no large frame.
     #[inline(never)]
     fn fill_past_quick(&mut self, input: &Input<'_>, captures: &mut Captures)
@@ -104,7 +104,7 @@ impl Regex {
             captures.set_pattern(pattern);
             return;
         }
-        match self.match_or_part(*input, captures.slots().len()) {
+        match self.match_past_quick(*input, captures.slots().len()) {
             Ok(found) => fill_captures(found, captures),
             Err(Some(part)) => self.choice.search(&part, captures),
             Err(None) => captures.clear(),

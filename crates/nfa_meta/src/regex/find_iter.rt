@@ -136,19 +136,14 @@ impl FindWith for ByWindow {
 
     ghost asks = { AsksByWindow };
 
-    // In the caller, so that a match at the first start is in no memory on its way.
-    #[inline(always)]
+    #[inline]
     fn answer(&mut self, regex: &mut Regex, input: &Input<'_>) -> Option<Match> {
         let known = ending_at(input.start(), self.known);
         if known.is_some() {
             return known;
         }
         let found = regex.find_by_ref(input);
-        // What was known stays true, so nothing is written for a match that is not empty.
-        let here = ending_at(input.start(), found);
-        if here.is_some() {
-            self.known = here;
-        }
+        self.known = ending_at(input.start(), found);
         found
     }
 

@@ -133,7 +133,7 @@ impl Regex {
         ensures same { self.new.choice ≡ self.old.choice }
         ensures keeps { KeepsRegex self.old self.new }
     {
-        if let Some(found) = self.quick(&input, false) {
+        if let Some(found) = self.quick(&input) {
             return Ok(found);
         }
         self.match_in_window(input)

@@ -18,12 +18,7 @@ impl Regex {
     /// Returns the match of a search for this number of slots, if the match has no others and known cells lead to it.
     /// `None` says nothing.
     #[inline(always)]
-    pub(super) fn quick_match(
-        &self,
-        input: &Input<'_>,
-        count: usize,
-        is_straight: bool,
-    ) -> Option<Match>
+    pub(super) fn quick_match(&self, input: &Input<'_>, count: usize) -> Option<Match>
         ensures answer { let x = search_of input.now in IfSome result (λ m.
             IsAnswer self.now.choice.nfa (kind_in self.now.choice) x.earliest x (Some (found_of m).pattern)
             (match_slots (found_of m))) }
@@ -36,7 +31,7 @@ impl Regex {
         if !self.has_two_slots(count) {
             return None;
         }
-        self.quick(input, is_straight)
+        self.quick(input)
     }
 
     /// Whether a search for this number of slots asks for two, and the match has no others.
@@ -71,7 +66,7 @@ impl Regex {
         ensures same { self.new.choice ≡ self.old.choice }
         ensures keeps { KeepsRegex self.old self.new }
     {
-        if let Some(found) = self.quick_match(&input, count, false) {
+        if let Some(found) = self.quick_match(&input, count) {
             return Ok(found);
         }
         self.match_past_quick(input, count)

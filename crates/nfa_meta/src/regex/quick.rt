@@ -1,30 +1,26 @@
 //! A match at a start before which nothing matches, over cells that the lazy DFA knows. Nothing is changed for it.
 ghost use Rattle.std.specs.Prelude.{◌≡◌, ◌+◌, ◌<◌, ◌≤◌, IfSome, Some, false, length};
-ghost use Rattle.regex_search_core.specs.Found.{found_of, half_found_of};
+ghost use Rattle.regex_search_core.specs.Found.{found_of};
 ghost use Rattle.regex_search_core.specs.Search.{search_of};
-ghost use Rattle.nfa_paths.specs.Paths.{IsFindAnswer, IsHalfAnswer};
+ghost use Rattle.nfa_paths.specs.Paths.{IsFindAnswer};
 ghost use Rattle.nfa_engines.specs.StartLaws.{IsFirstStart, StartsAnywhere};
 ghost use Rattle.nfa_choice.specs.ChoiceState.{kind_in};
 
 use crate::regex::Regex;
 use nfa_engines::laws::first_start_answers;
 use nfa_match_spans::laws::{anchored_matches_start_the_span, half_matches_are_ends};
-use regex_search_core::{Anchored, HalfMatch, Input, Match, Span};
+use regex_search_core::{Anchored, Input, Match, Span};
 
 impl Regex {
-    /// Returns the match of a search, if known cells lead to one at the likely start, straight or in any way. `None` says
-    /// nothing. The straight way makes no call, so a caller keeps no memory for an answer.
+    /// Returns the match of a search, if known cells lead to one at the likely start. `None` says nothing.
     #[inline(always)]
-    pub(super) fn quick(&self, input: &Input<'_>, is_straight: bool) -> Option<Match>
+    pub(super) fn quick(&self, input: &Input<'_>) -> Option<Match>
         ensures answer { let x = search_of input.now in IfSome result (λ m.
             IsFindAnswer self.now.choice.nfa (kind_in self.now.choice) x.earliest x (Some (found_of m))) }
         ensures pattern { IfSome result (λ m. (found_of m).pattern < length self.now.choice.nfa.patterns) }
     {
         let at = self.likely_start(input)?;
-        if is_straight && !is_ascii_at(input, at) {
-            return None;
-        }
-        self.quick_at(input, at, is_straight)
+        self.quick_at(input, at)
     }
 
     /// Returns a start before which nothing matches, and at which the search matches if it goes as the last one: the one
@@ -36,21 +32,22 @@ impl Regex {
         ensures first { IfSome result (IsFirstStart self.now.choice.nfa (search_of input.now)) }
         ensures within { IfSome result (λ at. at ≤ (search_of input.now).end + 1) }
     {
-        if !self.starts_anywhere(input) {
-            return None;
-        }
         if self.matched_at_literal && self.is_windowed(input) {
             return self.literals.first_start(self.choice.get_nfa(), input);
         }
-        if !self.matched_at_first {
+        if !self.matched_at_first || !self.starts_anywhere(input) {
             return None;
         }
-        self.first_begin(input)
+        let at = self.first_start(input);
+        if !self.begins_at(input, at) {
+            return None;
+        }
+        Some(at)
     }
 
     /// Returns the match of a search, if known cells lead to one at this start, before which nothing matches.
     #[inline(always)]
-    fn quick_at(&self, input: &Input<'_>, at: usize, is_straight: bool) -> Option<Match>
+    pub(super) fn quick_at(&self, input: &Input<'_>, at: usize) -> Option<Match>
         requires anywhere { StartsAnywhere self.now.choice.nfa (search_of input.now) }
         requires last { (search_of input.now).earliest ≡ false }
         requires first { IsFirstStart self.now.choice.nfa (search_of input.now) at }
@@ -61,13 +58,12 @@ impl Regex {
     {
         let _ = &self.dfa;
         first_start_answers();
-        let rest = input.range(at..input.end()).anchored(Anchored::Yes);
-        self.quick_anchored(&rest, is_straight)
+        self.quick_anchored(&input.range(at..input.end()).anchored(Anchored::Yes))
     }
 
     /// Returns the match of a search that is anchored, if known cells lead to it.
     #[inline(always)]
-    fn quick_anchored(&self, input: &Input<'_>, is_straight: bool) -> Option<Match>
+    fn quick_anchored(&self, input: &Input<'_>) -> Option<Match>
         ensures answer { let x = search_of input.now in IfSome result (λ m.
             IsFindAnswer self.now.choice.nfa (kind_in self.now.choice) x.earliest x (Some (found_of m))) }
         ensures pattern { IfSome result (λ m. (found_of m).pattern < length self.now.choice.nfa.patterns) }
@@ -77,32 +73,11 @@ impl Regex {
         }
         anchored_matches_start_the_span();
         half_matches_are_ends();
-        let half = self.quick_half(input, is_straight)?;
+        let half = self.dfa.known_half(&self.cache, input)?;
         let span = Span {
             start: input.start(),
             end: half.offset(),
         };
         Some(Match::new(half.pattern(), span))
-    }
-
-    /// Returns the half match of a search that is anchored, if known cells lead to it.
-    #[inline(always)]
-    fn quick_half(&self, input: &Input<'_>, is_straight: bool) -> Option<HalfMatch>
-        ensures answer { let x = search_of input.now in IfSome result (λ half.
-            IsHalfAnswer self.now.choice.nfa (kind_in self.now.choice) x.earliest x (Some (half_found_of half))) }
-    {
-        if is_straight {
-            return self.dfa.direct_half(&self.cache, input);
-        }
-        self.dfa.known_half(&self.cache, input)
-    }
-}
-
-/// Whether the position is not at a character of several bytes. The way through these is seldom straight.
-#[inline(always)]
-fn is_ascii_at(input: &Input<'_>, at: usize) -> bool {
-    match input.haystack().get(at) {
-        Some(byte) => *byte < 0x80,
-        None => true,
     }
 }

@@ -154,7 +154,6 @@ impl Regex {
     }
 
     /// Returns the match that [`Regex::find`] returns. It copies no input for a match at the first start.
-    #[inline(always)]
     pub(super) fn find_by_ref(&mut self, input: &Input<'_>) -> Option<Match>
         ensures answer { let x = search_of input.now in
             IsFindAnswer self.old.choice.nfa (kind_in self.old.choice) x.earliest x (option_map found_of result) }
@@ -164,7 +163,7 @@ impl Regex {
         ensures holds { HoldsNoMore (2 * length self.old.choice.nfa.groups) self.old.choice.back self.new.choice.back }
         ensures keeps { KeepsRegex self.old self.new }
     {
-        if let Some(found) = self.quick(input, true) {
+        if let Some(found) = self.quick(input) {
             self.misses = 0;
             return Some(found);
         }
@@ -183,10 +182,6 @@ impl Regex {
         ensures holds { HoldsNoMore (2 * length self.old.choice.nfa.groups) self.old.choice.back self.new.choice.back }
         ensures keeps { KeepsRegex self.old self.new }
     {
-        if let Some(found) = self.quick(input, false) {
-            self.misses = 0;
-            return Some(found);
-        }
         if let Some(found) = self.find_anchored(*input) {
             return found;
         }

@@ -20,7 +20,7 @@ returns-in-Err-Some-clause-answer c =
     answers.rows _ _ (subst (λ (b : Bool).
     IsAnswer r.nfa (kind_in r) b y c.search.new.captures.pattern c.search.new.captures.slots)
     (part-earliest r.nfa (search_of c.args.input.now) y part)
-    (rw (ap (λ (s : RegexState). s.choice) c.self.view_is ∙ c.match_or_part.ensures.same)
+    (rw (ap (λ (s : RegexState). s.choice) c.self.view_is ∙ c.match_past_quick.ensures.same)
     at c.search.ensures.answer))
 
 pub returns-in-Ok-clause-fills : goal.returns-in-Ok-clause-fills
@@ -53,10 +53,10 @@ returns-then-slots-ne2-clause-fills c =
 pub returns-in-Err-Some-clause-runs : goal.returns-in-Err-Some-clause-runs
 returns-in-Err-Some-clause-runs c =
     let a = c.args.self.now in
-    let b = c.match_or_part.new.self in
+    let b = c.match_past_quick.new.self in
     let x = search_of c.args.input.now in
     let y = search_of c.in-Err-Some.part in
     let why : NeedsPart x y a b = rw c.in-Err-Some.field-0-is at c.in-Err-Some.ensures.why in
     let ran : SearchedByRule y b.choice c.search.new.self =
     rw (ap (λ (s : RegexState). s.choice) c.self.view_is) at c.search.ensures.runs in
-    part-ran a b _ c.match_or_part.ensures.same x y why (first_of (search rules, grind (arith, common_steps))) ran
+    part-ran a b _ c.match_past_quick.ensures.same x y why (first_of (search rules, grind (arith, common_steps))) ran
