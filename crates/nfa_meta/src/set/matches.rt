@@ -4,10 +4,11 @@ ghost use Rattle.std.specs.List.Sorted.{IsStrictlyIncreasing};
 ghost use Rattle.regex_search_core.specs.PatternSets.{patterns_of, size_of_set};
 ghost use Rattle.regex_search_core.specs.PatternSetIters.{patterns_left};
 
-use regex_search_core::{PatternSet, PatternSetIter};
+use regex_search_core::{PatternID, PatternSet, PatternSetIter};
 use std::marker::Model;
 
 /// Which patterns of a [`RegexSet`](crate::RegexSet) match. [`RegexSet::matches`](crate::RegexSet::matches) returns it.
+/// `for pattern in &found` goes over those that match, as [`SetMatches::iter`] does.
 ///
 /// A contract sees, for each pattern of the set, whether it matches.
 #[derive(Debug, Drop)]
@@ -88,6 +89,9 @@ impl SetMatches {
     ///     numbers.push(pattern.as_usize())?;
     /// }
     /// assert_eq!(rt; numbers.as_slice(), [0].as_slice());
+    /// for pattern in &found {
+    ///     assert_eq!(rt; pattern.as_usize(), 0);
+    /// }
     /// ```
     pub fn iter(&self) -> PatternSetIter<'_>
         ensures all { patterns_left result ≡ patterns_of self.now }
@@ -95,5 +99,17 @@ impl SetMatches {
         ensures members { (p : ℕ) → Contains (patterns_of self.now) p ↔ (slice_index_or self.now p false ≡ true) }
     {
         self.patterns.iter()
+    }
+}
+
+impl<'a> IntoIterator for &'a SetMatches {
+    type Item = PatternID;
+
+    type IntoIter = PatternSetIter<'a>;
+
+    ghost into_iter_gives = { λ m left. patterns_left left ≡ patterns_of m.now };
+
+    fn into_iter(self) -> PatternSetIter<'a> {
+        self.iter()
     }
 }
