@@ -73,7 +73,7 @@ static inline int32_t nfa_compile(nfa_regex *re, const void *pattern, size_t pat
     return code;
 }
 
-/* The message of an error: empty for none, and where memory was refused for it. */
+/* The message of an error: empty for none, and where memory was refused once, and then was there. */
 static inline const char *nfa_error_message(const nfa_error *error) {
     return error == NULL ? "" : error->message;
 }
