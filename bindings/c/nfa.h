@@ -239,7 +239,7 @@ static inline int32_t nfa_iter_next(nfa_iter *iter, nfa_regex *re, const void *h
     return nfa_iter_step(iter, code, next.start, next.end);
 }
 
-/* Finds the next match, and writes the slots of its groups: two at least. */
+/* Finds the next match, and writes the slots of its groups: two at least. If there is none, they mean nothing. */
 static inline int32_t nfa_iter_next_captures(nfa_iter *iter, nfa_regex *re, const void *hay, size_t len, size_t *slots,
                                              size_t slots_len) {
     if (iter == NULL || slots == NULL || slots_len < 2)
