@@ -9,8 +9,8 @@ use Rattle.nfa_lazy_dfa.specs.Options.{Options}
 use Rattle.nfa_hybrid.specs.declared.hybrid.Engine.{Engine}
 use Rattle.nfa_hybrid.specs.declared.hybrid.Engine.TheVariants as engine
 
--- an NFA, the configuration of both engines, the bytes that the rows of the lazy DFA take, what the PikeVM's cache shows,
--- and which engine gave the last answer
+-- an NFA, the configuration of both engines, the bytes that the rows of the lazy DFA take, what the PikeVM's cache
+-- shows, and which engine gave the last answer
 pub record HybridState : Type 0 where
   pub nfa : Automaton
   pub config : Options

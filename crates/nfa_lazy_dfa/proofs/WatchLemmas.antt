@@ -94,15 +94,6 @@ pub IsBegun-idle : (dfa : DFA) (c : Cache) (x : Search) (at first : ℕ) → IsF
 IsBegun-idle dfa c x at first here whole idle apart =
     idle-begun dfa c x at (first / 256) here.at apart (λ s is. idle.alone s whole is) here.found
 
--- the scan goes on
-pub IsBegun-later : (nfa : Automaton) (x : Search) (start at to : ℕ) → at ≤ to → IsBegun nfa x start at
-    → IsBegun nfa x start to
-IsBegun-later nfa x start at to later begun = record {
-  low = begun.low;
-  high = let high : start ≤ at = begun.high in omega arith;
-  starts = begun.starts;
-}
-
 -- the start of the search
 pub IsBegun-start : (nfa : Automaton) (x : Search) (at : ℕ) → at ≡ x.start → IsBegun nfa x at at
 IsBegun-start nfa x at same = record {

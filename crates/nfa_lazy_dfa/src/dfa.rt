@@ -19,8 +19,8 @@ use thompson_nfa::{BuildError, Look, NFA, State};
 /// A lazy DFA of an NFA. Its searches make the rows that they need, and keep them in a cache.
 ///
 /// It finds whether there is a match, and where the match ends. Contracts see the NFA (`nfa_of`) and the configuration
-/// (`config_of`), and by it the match kind (`kind_of`), the bytes that the rows of a cache may take (`capacity_of`), and
-/// how often a search may clear them (`max_clears_of`).
+/// (`config_of`), and by it the match kind (`kind_of`), the bytes that the rows of a cache may take (`capacity_of`),
+/// and how often a search may clear them (`max_clears_of`).
 ///
 /// ```
 /// let nfa = Compiler::new().build(alloc, "foo[0-9]+")?;

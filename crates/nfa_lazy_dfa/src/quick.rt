@@ -19,8 +19,8 @@ use nfa_scan_core::starts::start_state;
 use regex_search_core::{HalfMatch, Input};
 
 impl DFA {
-    /// Returns the half match of a search, if rows that earlier searches made lead to it. `None` says nothing: such rows
-    /// are not there, or nothing matches.
+    /// Returns the half match of a search, if rows that earlier searches made lead to it. `None` says nothing: such
+    /// rows are not there, or nothing matches.
     ///
     /// An answer is that of [`DFA::try_find_half`], which also makes the rows that this call needs. This one changes
     /// nothing, and counts no step. If a match has to end on a boundary, only an anchored search has an answer. The

@@ -2,8 +2,8 @@
 use nfa_scan_core::first_bytes::FirstBytes;
 use thompson_nfa::NFA;
 
-/// How many bytes may begin a match if a loop for idle rows is to pay. With more of them a scan leaves such a row after a
-/// few bytes.
+/// How many bytes may begin a match if a loop for idle rows is to pay. With more of them a scan leaves such a row
+/// after a few bytes.
 const FEW: usize = 12;
 
 /// Whether few bytes begin a match.

@@ -1,13 +1,13 @@
 //! A scan that found nothing yet, and the last position at which it saw that no path is under way.
 //!
 //! A row whose only state is the start is *idle*: each path of an earlier start has ended there. If few bytes begin a
-//! match and the NFA has no assertions, cells that lead to such a row are marked, and a scan stays in it in a loop of its
-//! own. A loop does not pay where idle rows are left after a few bytes, as with assertions.
+//! match and the NFA has no assertions, cells that lead to such a row are marked, and a scan stays in it in a loop of
+//! its own. A loop does not pay where idle rows are left after a few bytes, as with assertions.
 //!
-//! With assertions there are several, by the byte before. A scan knows one of them, and compares it with the row of each
-//! position. It begins with one of the two that earlier scans left last for a row that is not idle, so for the start
-//! of a match: the cache keeps their places. Where a step takes no known cell, and where the scan ends, it looks at the
-//! row itself, and goes on with that one if it is idle.
+//! With assertions there are several, by the byte before. A scan knows one of them, and compares it with the row of
+//! each position. It begins with one of the two that earlier scans left last for a row that is not idle, so for the
+//! start of a match: the cache keeps their places. Where a step takes no known cell, and where the scan ends, it
+//! looks at the row itself, and goes on with that one if it is idle.
 ghost use Rattle.std.specs.Prelude.{◌≡◌, ◌+◌, ◌-◌, ◌%◌, ◌<◌, ◌≤◌, None, true};
 ghost use Rattle.regex_search_core.specs.Search.{search_of};
 ghost use Rattle.nfa_lazy_dfa.specs.Places.{IsFirstAt, IsFoundAt};
@@ -214,8 +214,8 @@ fn moved(dfa: &DFA, cache: &Cache, input: &Input<'_>, from: Watch, first: u32) -
     }
 }
 
-/// Goes on over cells without a mark, four bytes at a time, as the scan of a half match does, and looks at each position
-/// whether the row is idle.
+/// Goes on over cells without a mark, four bytes at a time, as the scan of a half match does, and looks at each
+/// position whether the row is idle.
 #[inline(always)]
 fn pass(dfa: &DFA, cache: &Cache, input: &Input<'_>, from: Watch) -> Watch
     requires own { IsFor cache.now dfa.now }
@@ -322,8 +322,8 @@ fn pass_rest(dfa: &DFA, cache: &Cache, input: &Input<'_>, from: Watch) -> Watch
     w
 }
 
-/// Goes on over known cells that lead to rows without a match, to the first other one or the end of the span, and counts
-/// the steps.
+/// Goes on over known cells that lead to rows without a match, to the first other one or the end of the span, and
+/// counts the steps.
 #[inline(always)]
 pub fn pass_counted(dfa: &DFA, cache: &mut Cache, input: &Input<'_>, from: Watch) -> Watch
     requires own { IsFor cache.old dfa.now }

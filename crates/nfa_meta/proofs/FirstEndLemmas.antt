@@ -13,7 +13,8 @@ use Rattle.nfa_meta.specs.WindowRuns.{HasNoMatch}
 use Rattle.nfa_meta.proofs.PrefixLemmas.{nothing-left}
 
 -- where accepting paths start does not depend on `earliest`
-starts-late : (nfa : Automaton) (x : Search) (s : ℕ) → StartsFrom nfa (record x { earliest = true }) s → StartsFrom nfa x s
+starts-late : (nfa : Automaton) (x : Search) (s : ℕ) → StartsFrom nfa (record x { earliest = true }) s
+    → StartsFrom nfa x s
 unfolding node_at edges_of
 starts-late nfa x s from = record { from = from.from }
 

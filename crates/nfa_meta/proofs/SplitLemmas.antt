@@ -26,7 +26,8 @@ found-all {nfa} {kind} {x} steps s ms t ran runs u over =
     subst (λ (found : List Match). AreMatches nfa kind x.earliest x (map found_of found)) run.3.0
     ((runs run.0 run.0.seen run.1).1 run.2)
 
--- Calls passed these matches, and have not ended: the spans so far, and those around more matches, are those around all.
+-- Calls passed these matches, and have not ended: the spans so far, and those around more matches, are those around
+-- all.
 pub record Passed (s : Split) (xs : List Span) (t : Split) : Type 0 where
   pub matches : List Match
   pub ran : Yields finds_next s.matches matches t.matches
@@ -211,7 +212,8 @@ module _ (text : List ℕ) where
     tells = AnswersMatch r.nfa (kind_in r) false
 
     -- the first of all matches are first matches
-    next-take : (n : ℕ) (w : IterState) (ms : List Found) → ItemsLast span_of tells (Fails span_of tells) w (as_items ms)
+    next-take : (n : ℕ) (w : IterState) (ms : List Found) → ItemsLast span_of tells (Fails span_of tells) w
+        (as_items ms)
         → ItemsNext span_of tells (Fails span_of tells) w (as_items (take n ms))
     next-take zero w ms h = tt
     next-take (suc n) w [] h = tt

@@ -173,7 +173,8 @@ module _ {r : ChoiceState} {text : List ℕ} {s : SplitN} (begins : BeginsSplit 
 
   some-given : (n : ℕ) → s.left ≡ suc n
       → Given splitn_next (BeginsOne (IsSplitUpTo r text (suc n))) (IsSplitUpTo r text (suc n)) s
-  some-given n left = given splitn_next (BeginsOne (IsSplitUpTo r text (suc n))) (IsSplitUpTo r text (suc n)) s first all
+  some-given n left =
+      given splitn_next (BeginsOne (IsSplitUpTo r text (suc n))) (IsSplitUpTo r text (suc n)) s first all
     where
       first : (xs : List Span) (t : SplitN) → Yields splitn_next s xs t → BeginsOne (IsSplitUpTo r text (suc n)) xs
       first xs t ran = elim (goes-or-rest n xs s t left ran) [

@@ -17,8 +17,8 @@ pub record KeepsSet (old new : SetState) : Type 0 where
   pub engine : KeepsHybrid old.engine new.engine
   pub texts : new.texts ≡ old.texts
 
--- the set has these settings and has not searched yet: the cache of its PikeVM is as it was made, and its lazy DFA has no
--- rows
+-- the set has these settings and has not searched yet: the cache of its PikeVM is as it was made, and its lazy DFA
+-- has no rows
 pub record IsNewSet (settings : Config) (s : SetState) : Type 0 where
   pub capacity : capacity_in s.engine.config ≡ row_capacity settings
   pub rows : s.engine.rows ≡ 0

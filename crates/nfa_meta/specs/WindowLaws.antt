@@ -29,9 +29,9 @@ WindowHasTheMatch =
     → IsFindAnswer nfa LeftmostFirst false (within x s half.offset) found
     → IsFindAnswer nfa LeftmostFirst false x found
 
--- Nothing matches before a position, and the anchored search there finds nothing: it has no accepting path, or its match
--- splits a codepoint. Then a search has the match of the search from the next position on, also if a match has to end
--- on a boundary.
+-- Nothing matches before a position, and the anchored search there finds nothing: it has no accepting path, or its
+-- match splits a codepoint. Then a search has the match of the search from the next position on, also if a match has
+-- to end on a boundary.
 abbrev pub SearchGoesOn : Type 0
 SearchGoesOn =
     (nfa : Automaton) (x : Search) (s : ℕ) (found : Option Found)

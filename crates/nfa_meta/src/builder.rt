@@ -172,8 +172,8 @@ impl Config {
         }
     }
 
-    /// Returns the configuration of a lazy DFA of this kind. A DFA without capacity stops at the start of each search, and
-    /// makes no row.
+    /// Returns the configuration of a lazy DFA of this kind. A DFA without capacity stops at the start of each
+    /// search, and makes no row.
     pub(crate) fn lazy_dfa(&self, kind: MatchKind) -> nfa_lazy_dfa::Config
         ensures kind { kind_in result ≡ kind }
         ensures capacity { capacity_in result ≡ row_capacity self.now }

@@ -25,8 +25,8 @@ pub fn windows_answer()
 }
 
 /// Suppose that nothing matches before a position, and that the anchored search there finds nothing. Then the leftmost
-/// first answer of an unanchored search is that of the search from the next position on. The start of a window is such a
-/// position, since no accepting path starts before it.
+/// first answer of an unanchored search is that of the search from the next position on. The start of a window is
+/// such a position, since no accepting path starts before it.
 ///
 /// This holds also if a match has to end on a boundary, so that the anchored search may find nothing since its match
 /// splits a codepoint. Premises: neither the search nor the NFA is anchored.

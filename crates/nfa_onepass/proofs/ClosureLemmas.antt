@@ -139,7 +139,8 @@ module _ (nfa : Automaton) where
             ]
 
     -- a thread whose state has no goal gives way to those that it leads to
-    pub IsUnderWay-on : (lists new : List (Vec ℕ)) (rest stack pushed : List Thread) (found : Option WayEnd) (t : Thread)
+    pub IsUnderWay-on : (lists new : List (Vec ℕ)) (rest stack pushed : List Thread) (found : Option WayEnd)
+        (t : Thread)
         → stack ≡ rest ++ t ∷ [] → IsUnderWay lists stack found → goal_of byte (node_at nfa t.sid) ≡ None
         → LeadsBelow (length nfa.states) (node_at nfa t.sid) → Keeps lists new
         → GoesOn nfa lists new rest pushed t → IsUnderWay new pushed found
@@ -170,7 +171,8 @@ module _ (nfa : Automaton) where
                 let k = h.threads u (subst (In u) (sym is) (In-append_left u rest (t ∷ []) j)) in
                 (k.0, (let l = keeps.longer in let m = k.1 in omega arith))
             | inr j ↦
-                let m = In-mapped (λ (z : ℕ). record { sid = z; list = on.list }) (free_states (node_at nfa t.sid)) u j in
+                let m =
+                In-mapped (λ (z : ℕ). record { sid = z; list = on.list }) (free_states (node_at nfa t.sid)) u j in
                 subst (IsThread new) (sym m.2)
                 (free-below (length nfa.states) (node_at nfa t.sid) leads m.0 m.1, on.inside)
           ];

@@ -35,7 +35,8 @@ module _ (cuts : SearchMayBeCut LeftmostFirst false) (ones : MatchesAreOfPaths) 
         let y : Search = cut_to x o.path.start.1 o.end.1 x.anchored in
         let cut : IsSearchAnswer nfa LeftmostFirst false y 0 (Some p) =
         cuts nfa x x.anchored restarts p o.path.start o.end same answers o.path.head o.path.ends in
-        let here : IsMatchOfPath nfa (raised y 0) p m = ones nfa LeftmostFirst false y 0 (Some p) (Some m) valid records cut
+        let here : IsMatchOfPath nfa (raised y 0) p m =
+        ones nfa LeftmostFirst false y 0 (Some p) (Some m) valid records cut
         (record { restarts = 0; path = Some p; answers = cut; found_is = found }) in
         let z : IsMatchOfPath nfa y p m = subst (λ (w : Search). IsMatchOfPath nfa w p m) (raised-zero y) here in
         let begins = start-has nfa y z.path.start z.path.among in
@@ -66,6 +67,7 @@ module _ (cuts : SearchMayBeCut LeftmostFirst false) (ones : MatchesAreOfPaths) 
     answer-of restarts None answers found one = absurd one
     answer-of restarts (Some p) answers found one = answer-along restarts p answers found one
 
-    pub only-answer : IsFindAnswer nfa LeftmostFirst false x (Some m) → IsAnswer nfa LeftmostFirst false x (Some k) slots
+    pub only-answer : IsFindAnswer nfa LeftmostFirst false x (Some m)
+        → IsAnswer nfa LeftmostFirst false x (Some k) slots
     only-answer f = answer-of f.restarts f.path f.answers f.found_is
         (ones nfa LeftmostFirst false x f.restarts f.path (Some m) valid records f.answers f)

@@ -28,7 +28,8 @@ write_each-written (Some k) ws at slots = refl
 -- writes keep the length
 pub length-write_each : (ws : List ℕ) (at : ℕ) (slots : Slots) → length (write_each ws at slots) ≡ length slots
 length-write_each [] at slots = refl
-length-write_each (k ∷ ws) at slots = length-write_each ws at (slice_set slots k (Some at)) ∙ length-set slots k (Some at)
+length-write_each (k ∷ ws) at slots = length-write_each ws at (slice_set slots k (Some at))
+    ∙ length-set slots k (Some at)
 
 -- what is there
 pattern-some : (o : Option ℕ) → is_some o ≡ true → (k : ℕ) × (o ≡ Some k)

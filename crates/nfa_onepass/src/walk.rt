@@ -121,7 +121,8 @@ impl OnePass {
     ) -> Option<u32>
         requires own { IsFor nfa.now self.old }
         requires order { (search_of input.now).start ≤ (search_of input.now).end }
-        requires walking { IsWalking nfa.now (search_of input.now) self.old first (search_of input.now).start slots.old }
+        requires walking { IsWalking nfa.now (search_of input.now) self.old first (search_of input.now).start
+            slots.old }
         ensures own { IsFor nfa.now self.new }
         ensures limit { self.new.limit ≡ self.old.limit }
         ensures walking { IfSome result (λ row.

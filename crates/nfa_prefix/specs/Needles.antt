@@ -4,8 +4,8 @@ use Rattle.std.specs.declared.alloc.Global.{Global}
 use Rattle.regex_literal.specs.Find.{OccursAt, needle_at}
 
 -- the texts as lists of bytes
-abbrev pub bytes_of : List (Vec ℕ Global) → List (List ℕ)
-bytes_of texts = map (λ v. v.items) texts
+abbrev pub texts_now : List (Vec ℕ Global) → List (List ℕ)
+texts_now texts = map (λ v. v.items) texts
 
 -- one of the texts has this length, and the haystack has it from the position on
 pub record BeginsWithOne (hay : List ℕ) (texts : List (List ℕ)) (count k : ℕ) : Type 0 where

@@ -88,7 +88,8 @@ impl Levels {
         self.find(&haystack[..end], from)
     }
 
-    /// Returns the first position of the text from `from` on that the levels admit, or one before which they admit none.
+    /// Returns the first position of the text from `from` on that the levels admit, or one before which they admit
+    /// none.
     fn find(&self, text: &[u8], from: usize) -> Option<usize>
         requires { from ≤ length text.now }
         ensures { MatchOption result (Nowhere (AdmitsAt self.now text.now) from (length text.now + 1))

@@ -27,8 +27,8 @@ use thompson_nfa::NFA;
 pub struct Literals {
     /// The bytes that each match begins with.
     prefix: Vec<u8>,
-    /// The bytes that matches may have at their first positions, if they are rare in text: a prefix of two bytes or more,
-    /// or else those that are found for each position.
+    /// The bytes that matches may have at their first positions, if they are rare in text: a prefix of two bytes or
+    /// more, or else those that are found for each position.
     levels: Option<Levels>,
     /// The bytes that a match may begin with.
     first: FewBytes,

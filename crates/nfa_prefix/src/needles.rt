@@ -3,7 +3,7 @@ ghost use Rattle.std.specs.Prelude.{◌≡◌, ◌+◌, ◌++◌, ◌∷◌, [],
 ghost use Rattle.regex_literal.specs.ByteSets.{IsInSet};
 ghost use Rattle.regex_literal.specs.Find.{AnyOccursAt, NoneBefore, Nowhere, OccursAt};
 ghost use Rattle.regex_literal.specs.Levels.{FitsLevels};
-ghost use Rattle.nfa_prefix.specs.Needles.{BeginsWithOne, bytes_of};
+ghost use Rattle.nfa_prefix.specs.Needles.{BeginsWithOne, texts_now};
 
 use regex_literal::{Bounded, Prefilter, ascii_share};
 use std::alloc::{AllocError, Global};
@@ -67,7 +67,7 @@ pub fn next_needle(needles: &Prefilter, text: &[u8], from: usize) -> Option<usiz
 /// Returns the texts that have a byte of each of the first levels in turn, of as many levels as leave at most 64 texts.
 fn texts_of(alloc: Global, levels: &[[bool; 256]]) -> Result<Vec<Vec<u8>>, AllocError>
     ensures { IfOk result (λ texts. (hay : List ℕ) (k : ℕ) → FitsLevels hay levels.now k
-        → AnyOccursAt hay (bytes_of texts.items) k) }
+        → AnyOccursAt hay (texts_now texts.items) k) }
 {
     let mut texts = empty_text(alloc)?;
     for level in levels {
@@ -81,7 +81,7 @@ fn texts_of(alloc: Global, levels: &[[bool; 256]]) -> Result<Vec<Vec<u8>>, Alloc
 
 /// Returns the empty text alone.
 fn empty_text(alloc: Global) -> Result<Vec<Vec<u8>>, AllocError>
-    ensures { IfOk result (λ texts. bytes_of texts.items ≡ [] ∷ []) }
+    ensures { IfOk result (λ texts. texts_now texts.items ≡ [] ∷ []) }
 {
     let mut texts = Vec::new(alloc);
     texts.push(Vec::new(alloc))?;
@@ -106,8 +106,8 @@ fn lengthened(
     level: &[bool; 256],
 ) -> Result<Vec<Vec<u8>>, AllocError>
     ensures { IfOk result (λ longer. (hay : List ℕ) (count k : ℕ)
-        → BeginsWithOne hay (bytes_of texts.now) count k → k + count < length hay
-        → IsInSet level.now hay (k + count) → BeginsWithOne hay (bytes_of longer.items) (count + 1) k) }
+        → BeginsWithOne hay (texts_now texts.now) count k → k + count < length hay
+        → IsInSet level.now hay (k + count) → BeginsWithOne hay (texts_now longer.items) (count + 1) k) }
 {
     let mut longer = Vec::new(alloc);
     for text in texts {
@@ -124,11 +124,11 @@ fn add_longer(
     level: &[bool; 256],
 ) -> Result<(), AllocError>
     ensures keeps { OnOk result ((hay : List ℕ) (count k : ℕ)
-        → BeginsWithOne hay (bytes_of longer.old.items) count k
-        → BeginsWithOne hay (bytes_of longer.new.items) count k) }
+        → BeginsWithOne hay (texts_now longer.old.items) count k
+        → BeginsWithOne hay (texts_now longer.new.items) count k) }
     ensures adds { OnOk result ((hay : List ℕ) (k : ℕ) → OccursAt hay text.now k
         → k + length text.now < length hay → IsInSet level.now hay (k + length text.now)
-        → BeginsWithOne hay (bytes_of longer.new.items) (length text.now + 1) k) }
+        → BeginsWithOne hay (texts_now longer.new.items) (length text.now + 1) k) }
 {
     for byte in 0..256usize {
         if level[byte] {

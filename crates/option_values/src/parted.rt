@@ -48,7 +48,8 @@ fn push_word<'w>(
     parted: &mut Parted<'w>,
 ) -> Result<Mode, AllocError>
     ensures options { OnOk result (parted.new.options.items ≡ parted.old.options.items ++ as_option mode word.entry) }
-    ensures operands { OnOk result (parted.new.operands.items ≡ parted.old.operands.items ++ as_operand mode word.entry) }
+    ensures operands { OnOk result (parted.new.operands.items ≡ parted.old.operands.items ++ as_operand mode
+        word.entry) }
     ensures mode { IfOk result (λ next. next ≡ mode_next valued.now mode word.entry) }
 {
     match mode {
@@ -70,8 +71,10 @@ fn push_first<'w>(
     word: Word<'w>,
     parted: &mut Parted<'w>,
 ) -> Result<Mode, AllocError>
-    ensures options { OnOk result (parted.new.options.items ≡ parted.old.options.items ++ as_option Options word.entry) }
-    ensures operands { OnOk result (parted.new.operands.items ≡ parted.old.operands.items ++ as_operand Options word.entry) }
+    ensures options { OnOk result (parted.new.options.items ≡ parted.old.options.items ++ as_option Options
+        word.entry) }
+    ensures operands { OnOk result (parted.new.operands.items ≡ parted.old.operands.items ++ as_operand Options
+        word.entry) }
     ensures mode { IfOk result (λ next. next ≡ mode_next valued.now Options word.entry) }
 {
     if is_same(word.bytes, b"--") {

@@ -8,15 +8,15 @@ use crate::regex::Regex;
 use regex_search_core::{Input, PatternSet};
 
 impl Regex {
-    /// Adds patterns of leftmost first matches to the set. The set keeps its patterns, and gains only patterns below its
-    /// capacity.
+    /// Adds patterns of leftmost first matches to the set. The set keeps its patterns, and gains only patterns below
+    /// its capacity.
     ///
     /// A set that holds a pattern gains nothing. An empty set gains the pattern of the first match, and of each match
     /// that is the first of those that end before some limit. With `earliest`, only that of the match that ends first.
     /// Matches of patterns at or above the capacity do not count.
     ///
-    /// The search is always one of the PikeVM of the [`Choice`](nfa_choice::Choice). For every pattern that matches, use
-    /// a `Choice` or an `nfa_hybrid::Hybrid` with the match kind `All`.
+    /// The search is always one of the PikeVM of the [`Choice`](nfa_choice::Choice). For every pattern that matches,
+    /// use a `Choice` or an `nfa_hybrid::Hybrid` with the match kind `All`.
     ///
     /// ```
     /// // regex of ["foo", "bar"]

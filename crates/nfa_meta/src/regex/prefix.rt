@@ -50,8 +50,8 @@ impl Regex {
     }
 }
 
-/// Returns the input of a search from a position on before which no match starts, as far on as the literals say. Returns
-/// `None` if they say that nothing matches.
+/// Returns the input of a search from a position on before which no match starts, as far on as the literals say.
+/// Returns `None` if they say that nothing matches.
 fn rest_from<'h>(nfa: &NFA, literals: &Literals, input: Input<'h>) -> Option<Input<'h>>
     requires of { AreLiteralsOf nfa.now literals.now }
     requires unbound { IsUnbound nfa.now (search_of input) }

@@ -117,8 +117,8 @@ where
     with_rest(output, haystack, from)
 }
 
-/// Returns the haystack with what the function appends, for the captures of each step, in place of the first matches: of
-/// as many as the limit, or of all, if there are fewer. It stops at the limit.
+/// Returns the haystack with what the function appends, for the captures of each step, in place of the first matches:
+/// of as many as the limit, or of all, if there are fewer. It stops at the limit.
 fn rewrite_first<'h, F>(
     regex: &mut Regex,
     mut steps: Steps<'h, CapturesFinder>,

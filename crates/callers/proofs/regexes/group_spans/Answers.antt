@@ -34,6 +34,7 @@ returns c =
     let all = given-drained c.in_ok-items.ensures.given i.caught l.items next i.ran given.call in
     record {
       caught = i.caught;
-      all = all-caught c.args.regex.now.choice c.args.text.now (search_of c.new.result) c.new.ensures i.caught all.0 all.2;
+      all = all-caught c.args.regex.now.choice c.args.text.now (search_of c.new.result) c.new.ensures i.caught all.0
+          all.2;
       spans_are = i.spans;
     }

@@ -36,7 +36,8 @@ returns-then-is_dead-clause-next c =
     let a = c.args.ahead in
     let here = c.requires.at in
     let dead = c.is_dead.ensures c.if-is_dead.true in
-    let leads : Leads dfa.nfa dfa.kind (stances_of cache.stands.items) here.at.stance (get_or x.haystack a.at 0) a.cell =
+    let leads :
+    Leads dfa.nfa dfa.kind (stances_of cache.stands.items) here.at.stance (get_or x.haystack a.at 0) a.cell =
     c.requires.cell.leads dead.1 here.at.stance here.at.is in
     let inside = c.requires.cell.inside dead.1 in
     let within = c.args.input.now.within in

@@ -28,7 +28,8 @@ returns-then-ends_scan-clause-next c =
     let a = c.args.ahead in
     let here = c.requires.at in
     let known = c.ends_scan.ensures.known c.if-ends_scan.true in
-    let leads : Leads dfa.nfa dfa.kind (stances_of cache.stands.items) here.at.stance (get_or x.haystack a.at 0) a.cell =
+    let leads :
+    Leads dfa.nfa dfa.kind (stances_of cache.stands.items) here.at.stance (get_or x.haystack a.at 0) a.cell =
     c.requires.cell.leads known here.at.stance here.at.is in
     let inside = c.requires.cell.inside known in
     let within = c.args.input.now.within in

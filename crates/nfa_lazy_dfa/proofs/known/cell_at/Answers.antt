@@ -17,7 +17,8 @@ returns-clause-plain c = λ low.
     let cell = c.read_cell.result in
     unmarked c.args.dfa.now x c.args.cache.now (at + 1) cell c.args.found low
     (over-plain c.args.dfa.now x c.args.cache.now (place_at at c.args.first c.args.found) here cell
-    (c.read_cell.ensures (omega arith) here.at.stance here.at.is) c.requires.inside c.args.input.now.within (omega arith))
+    (c.read_cell.ensures (omega arith) here.at.stance here.at.is) c.requires.inside c.args.input.now.within
+    (omega arith))
 
 pub returns-clause-unmatched : goal.returns-clause-unmatched
 returns-clause-unmatched c = λ low.

@@ -28,7 +28,8 @@ scan_rest-requires-clause-at c =
     let x = search_of c.args.input.now in
     IsFoundAt-same c.args.dfa.now x c.over_known-over.result.0 c.args.cache.now c.count_steps.new.self
     c.count_steps.ensures.same
-    (next-on c.args.dfa.now x c.args.cache.now c.over_known-over.result.0 c.over_known-over.result.1 c.over_known-over.ensures.next
+    (next-on c.args.dfa.now x c.args.cache.now c.over_known-over.result.0 c.over_known-over.result.1
+    c.over_known-over.ensures.next
     c.if-over.false)
 
 pub returns-clause-reads : goal.returns-clause-reads

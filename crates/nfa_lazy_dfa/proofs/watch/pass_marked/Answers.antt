@@ -14,7 +14,8 @@ loop-at-preserved c =
       whole = whole;
       at = there;
       begun = IsBegun-idle dfa c.args.cache.now (search_of c.args.input.now) to (cell % 0x2000_0000) there whole
-          (c.pass_plain-next.ensures.idle c.pass_plain-next.ensures.marked (omega arith)) (dfa.apart_is c.requires.apart);
+          (c.pass_plain-next.ensures.idle c.pass_plain-next.ensures.marked (omega arith))
+          (dfa.apart_is c.requires.apart);
       low = omega arith;
       high = there.at.high;
     }

@@ -2,7 +2,7 @@
 use Rattle.std.proofs.lemmas.List.{map_push}
 use Rattle.nfa_paths.proofs.Common.{◌≡◌, ◌∙◌, ◌++◌, ◌∷◌, [], ℕ, ◌+◌, Vec, ap, arith, cases_lt, get_or, inl, inr, length, length_push, subst}
 use Rattle.std.specs.declared.alloc.Global.{Global}
-use Rattle.nfa_prefix.specs.Needles.{BeginsWithOne, bytes_of}
+use Rattle.nfa_prefix.specs.Needles.{BeginsWithOne, texts_now}
 use Rattle.nfa_prefix.proofs.NeedleLemmas.{begins-last, begins-push, occurs-longer}
 use Rattle.nfa_prefix.proofs.needles.add_longer.Goals.{then-level-byte+in_ok-with_byte+in_ok-push, else-level-byte}
 use Rattle.nfa_prefix.proofs.needles.add_longer.Goals as goal
@@ -11,17 +11,18 @@ pub loop-byte-preserved : goal.loop-byte-preserved
 loop-byte-preserved c =
     let text = c.args.text.now in
     let byte = c.loop-byte.byte in
-    let old = bytes_of c.loop-byte.longer.items in
+    let old = texts_now c.loop-byte.longer.items in
     elim c.if-level-byte.branch [
       | then-level-byte+in_ok-with_byte+in_ok-push w ↦
           let more = text ++ byte ∷ [] in
-          let new : bytes_of c.if-level-byte.longer.items ≡ old ++ more ∷ [] =
-          ap (λ (v : Vec (Vec ℕ Global) Global). bytes_of v.items) w.longer-is
-          ∙ ap bytes_of w.in_ok-push.ensures.items ∙ map_push (λ (v : Vec ℕ Global). v.items) _ _
+          let new : texts_now c.if-level-byte.longer.items ≡ old ++ more ∷ [] =
+          ap (λ (v : Vec (Vec ℕ Global) Global). texts_now v.items) w.longer-is
+          ∙ ap texts_now w.in_ok-push.ensures.items ∙ map_push (λ (v : Vec ℕ Global). v.items) _ _
           ∙ ap (λ t. old ++ t ∷ []) w.in_ok-with_byte.ensures in
           rw new
           (record {
-            keeps = λ hay count k there. begins-push hay old more count k (c.loop-byte.invariant.keeps hay count k there);
+            keeps = λ hay count k there. begins-push hay old more count k
+                (c.loop-byte.invariant.keeps hay count k there);
             adds = λ hay k occurs inside has less.
                 elim (cases_lt (get_or hay (k + length text) 0) byte) [
                   | inl before ↦

@@ -1,11 +1,11 @@
 -- Each text so far is longer by a byte of the level.
 use Rattle.nfa_paths.proofs.Common.{ℕ, ◌+◌, ◌<◌, List, length, take}
 use Rattle.regex_literal.specs.ByteSets.{IsInSet}
-use Rattle.nfa_prefix.specs.Needles.{BeginsWithOne, bytes_of}
+use Rattle.nfa_prefix.specs.Needles.{BeginsWithOne, texts_now}
 use Rattle.nfa_prefix.proofs.needles.lengthened.Given as goal
 
 abbrev pub invariant-loop-text : goal.invariant-loop-text
 invariant-loop-text l =
-    (hay : List ℕ) (count k : ℕ) → BeginsWithOne hay (bytes_of (take l.text-index l.texts)) count k
+    (hay : List ℕ) (count k : ℕ) → BeginsWithOne hay (texts_now (take l.text-index l.texts)) count k
     → k + count < length hay → IsInSet l.level hay (k + count)
-    → BeginsWithOne hay (bytes_of l.longer.items) (count + 1) k
+    → BeginsWithOne hay (texts_now l.longer.items) (count + 1) k

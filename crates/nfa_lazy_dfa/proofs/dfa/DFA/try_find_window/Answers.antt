@@ -17,4 +17,5 @@ returns-clause-window c =
     let kind = c.args.self.now.kind in
     let answers : IfOk c.try_scan_window.result (λ w. IsHalfAnswer nfa kind x.earliest x (option_map half_in w)) =
     search rules in
-    IsWindow-scan nfa kind x c.try_scan_window.result answers c.try_scan_window.ensures.half c.try_scan_window.ensures.start
+    IsWindow-scan nfa kind x c.try_scan_window.result answers c.try_scan_window.ensures.half
+    c.try_scan_window.ensures.start

@@ -18,4 +18,5 @@ returns-in-Ok-None-clause-answer c =
     let r = c.args.self.now.choice in
     let x = search_of c.args.input in
     let none : None ≡ scan_half r.nfa x (kind_in r) x.earliest = first_of (search rules, grind (arith, common_steps)) in
-    (none-match r.nfa (kind_in r) x (half-none r.nfa (kind_in r) x.earliest x c.steps_find_the_half.ensures none)).matches
+    (none-match r.nfa (kind_in r) x
+    (half-none r.nfa (kind_in r) x.earliest x c.steps_find_the_half.ensures none)).matches

@@ -5,7 +5,8 @@ use Rattle.nfa_onepass.proofs.table.OnePass.keep.Goals as goal
 
 pub returns-clause-own : goal.returns-clause-own
 returns-clause-own c =
-    IsFor-set c.args.nfa.now c.args.self.now _ c.args.row c.args.column c.args.sid c.index_mut-kept.result.now c.args.cell
+    IsFor-set c.args.nfa.now c.args.self.now _ c.args.row c.args.column c.args.sid c.index_mut-kept.result.now
+    c.args.cell
     c.index_mut-kept.ensures.value refl refl
     (record { rows = refl; lists = refl; limit = refl }) c.requires.own c.requires.here c.requires.step
 

@@ -14,6 +14,7 @@ returns-clause-takes c s here =
       to = step.goal;
       written = slots;
       is = step.leads low;
-      sure = subst (λ (o : Option ℕ). IsSure c.args.nfa.now s o step.goal slots) (byte_of-low c.args.byte low) step.sure;
+      sure = subst (λ (o : Option ℕ). IsSure c.args.nfa.now s o step.goal slots) (byte_of-low c.args.byte low)
+          step.sure;
       writes = c.if-not-write_list.ensures refl;
     }

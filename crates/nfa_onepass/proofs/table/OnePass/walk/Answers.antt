@@ -9,7 +9,8 @@ loop-at-preserved c =
     record {
       own = c.in_ok-row.ensures.own;
       limit = c.in_ok-row.ensures.limit ∙ c.loop-at.invariant.limit;
-      walking = IsWalking-takes c.args.nfa.now (search_of c.args.input.now) c.loop-at.self c.step_over.new.self c.loop-at.row
+      walking = IsWalking-takes c.args.nfa.now (search_of c.args.input.now) c.loop-at.self c.step_over.new.self
+          c.loop-at.row
           c.in_ok-byte.byte c.loop-at.at c.loop-at.slots c.step_over.new.slots c.in_ok-row.row w
           (sym c.byte_at.ensures ∙ c.in_ok-byte.was) (c.in_ok-row.ensures.takes w.state w.here);
     }

@@ -16,5 +16,7 @@ returns-clause-only c =
     let w = c.in_ok-row.ensures.walking in
     IsWalking-end c.args.nfa.now (search_of c.args.input.now) c.walk.new.self c.cell.new.self c.in_ok-row.row
     (number_of c.in_ok-pattern.pattern) c.in_ok-cell.cell c.walk.new.slots c.write_list.new.slots w
-    (c.in_ok-cell.ensures.step w.state w.here) c.in_ok-pattern.ensures (c.if-not-write_list.ensures refl ∙ ap (λ (n : ℕ). write_each
-    (list_at c.cell.new.self.lists.items.items c.in_ok-cell.cell.list) n c.walk.new.slots) c.end.ensures.value)
+    (c.in_ok-cell.ensures.step w.state w.here) c.in_ok-pattern.ensures
+    (c.if-not-write_list.ensures refl
+    ∙ ap (λ (n : ℕ). write_each (list_at c.cell.new.self.lists.items.items c.in_ok-cell.cell.list) n c.walk.new.slots)
+    c.end.ensures.value)
