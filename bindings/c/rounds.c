@@ -3,7 +3,7 @@
 #include "nfa.h"
 #include <stdio.h>
 
-enum { SLOTS = 32 };
+enum { SLOTS = 4 };
 
 /* All matches of the text, or one by this call. */
 static size_t count_by(const char *call, nfa_regex *re, const char *text, size_t len, size_t *sum) {
