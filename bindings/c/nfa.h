@@ -12,7 +12,8 @@
  * Names are those of rure.h, with `nfa_` for `rure_`. The caller owns handles, slots and texts: nothing is returned
  * that has to be freed, and nothing aborts. Texts need no zero at their end, and offsets count bytes from the start of
  * the haystack. nfa_regex.h has the types and codes, what a caller must ensure, and the library's own functions. Those
- * here test null pointers and lengths, and call them. They take null with the length 0. */
+ * here test null pointers and lengths, and call them: they return NFA_ARGUMENT, or what those say. They take null with
+ * the length 0. */
 #ifndef NFA_H
 #define NFA_H
 
@@ -72,21 +73,24 @@ static inline int32_t nfa_compile(nfa_regex *re, const void *pattern, size_t pat
     return code;
 }
 
-/* The message of an error: empty for none, and where memory was refused for it. */
+/* The message of an error: empty for none, and where memory was refused once, and then was there. */
 static inline const char *nfa_error_message(const nfa_error *error) {
     return error == NULL ? "" : error->message;
 }
 
+/* Fills `to` with a copy whose caches are its own, and frees what `to` had. One handle for both is NFA_ARGUMENT. */
 static inline int32_t nfa_clone(nfa_regex *from, nfa_regex *to) {
     return from == NULL || to == NULL || from == to ? (int32_t)NFA_ARGUMENT : nfa_regex_clone(from, to);
 }
 
+/* Empties the handle, and frees what it had. Null, or an empty handle, is left as it is. */
 static inline void nfa_free(nfa_regex *re) {
     if (re != NULL)
         nfa_regex_free(re);
 }
 
-/* Writes a message of any length that ends in a zero, and returns its length without that. */
+/* Writes why the pattern cannot be compiled, as far as there is room, with a zero at the end. Returns the length of the
+ * whole message without that; 0 if the pattern can be compiled, or an argument is wrong. */
 static inline size_t nfa_why(const void *pattern, size_t pattern_len, const nfa_options *options, char *message,
                              size_t room) {
     const uint8_t *text = nfa_slice(pattern, pattern_len);
@@ -100,11 +104,14 @@ static inline size_t nfa_why(const void *pattern, size_t pattern_len, const nfa_
 
 /* ---- Searching, from `start` to the end of the haystack ---- */
 
+/* Whether there is a match. As of the next three: NFA_FOUND, NFA_NONE, NFA_EMPTY, NFA_RANGE if the start is past the
+ * end, or NFA_ARGUMENT. */
 static inline int32_t nfa_is_match(nfa_regex *re, const void *hay, size_t len, size_t start) {
     const uint8_t *text = nfa_slice(hay, len);
     return re == NULL || text == NULL ? (int32_t)NFA_ARGUMENT : nfa_regex_is_match(re, text, len, start, len);
 }
 
+/* Finds the match that starts first and, among those, prefers the earlier alternative, and writes it. */
 static inline int32_t nfa_find(nfa_regex *re, const void *hay, size_t len, size_t start, nfa_match *found) {
     const uint8_t *text = nfa_slice(hay, len);
     if (re == NULL || text == NULL || found == NULL)
@@ -112,6 +119,7 @@ static inline int32_t nfa_find(nfa_regex *re, const void *hay, size_t len, size_
     return nfa_regex_find(re, text, len, start, len, found);
 }
 
+/* Finds an offset at which a match is known, which may be before its end, and writes it. */
 static inline int32_t nfa_shortest_match(nfa_regex *re, const void *hay, size_t len, size_t start, size_t *end) {
     const uint8_t *text = nfa_slice(hay, len);
     if (re == NULL || text == NULL || end == NULL)
@@ -132,7 +140,7 @@ static inline int32_t nfa_find_captures(nfa_regex *re, const void *hay, size_t l
 
 /* ---- Groups ---- */
 
-/* The number of groups, with group 0. Slots for all are twice as many. */
+/* The number of groups, with group 0; 0 for null or an empty handle. Slots for all are twice as many. */
 static inline size_t nfa_captures_len(nfa_regex *re) {
     return re == NULL ? 0 : nfa_regex_slot_count(re) / 2;
 }
@@ -147,7 +155,7 @@ static inline bool nfa_captures_at(const size_t *slots, size_t slots_len, size_t
     return true;
 }
 
-/* Finds the group of this name, and writes its number. */
+/* Finds the group of this name, and writes its number: NFA_FOUND, NFA_NONE, NFA_EMPTY, NFA_UTF8 or NFA_ARGUMENT. */
 static inline int32_t nfa_capture_name_index(nfa_regex *re, const void *name, size_t name_len, size_t *index) {
     const uint8_t *text = nfa_slice(name, name_len);
     if (re == NULL || text == NULL || index == NULL)
@@ -171,6 +179,7 @@ typedef struct nfa_iter_capture_names {
     const char *at, *end;
 } nfa_iter_capture_names;
 
+/* Begins before the first of them. `count` is what nfa_capture_names wrote. */
 static inline nfa_iter_capture_names nfa_iter_capture_names_new(const char *names, size_t count) {
     nfa_iter_capture_names iter = {names, names};
     if (names != NULL)
@@ -230,7 +239,7 @@ static inline int32_t nfa_iter_next(nfa_iter *iter, nfa_regex *re, const void *h
     return nfa_iter_step(iter, code, next.start, next.end);
 }
 
-/* Finds the next match, and writes the slots of its groups: two at least. */
+/* Finds the next match, and writes the slots of its groups: two at least. If there is none, they mean nothing. */
 static inline int32_t nfa_iter_next_captures(nfa_iter *iter, nfa_regex *re, const void *hay, size_t len, size_t *slots,
                                              size_t slots_len) {
     if (iter == NULL || slots == NULL || slots_len < 2)
@@ -300,6 +309,7 @@ static inline int32_t nfa_join(nfa_joined *all, const void *const *patterns, con
     return NFA_OK;
 }
 
+/* As nfa_free. */
 static inline void nfa_set_free(nfa_set *set) {
     if (set != NULL)
         nfa_regex_set_free(set);
@@ -330,11 +340,12 @@ static inline int32_t nfa_compile_set(nfa_set *set, const void *const *patterns,
     return code;
 }
 
+/* As nfa_clone. */
 static inline int32_t nfa_set_clone(nfa_set *from, nfa_set *to) {
     return from == NULL || to == NULL || from == to ? (int32_t)NFA_ARGUMENT : nfa_regex_set_clone(from, to);
 }
 
-/* The number of patterns. */
+/* The number of patterns; 0 for null or an empty handle. */
 static inline size_t nfa_set_len(nfa_set *set) {
     return set == NULL ? 0 : nfa_regex_set_len(set);
 }

@@ -66,9 +66,9 @@ enum {
 
 /* Flags of nfa_options. */
 enum {
-    NFA_CASE_INSENSITIVE = 1,
+    NFA_CASE_INSENSITIVE = 1,     /* letters match in both cases */
     NFA_MULTI_LINE = 2,           /* ^ and $ match at each line */
-    NFA_DOT_MATCHES_NEW_LINE = 4,
+    NFA_DOT_MATCHES_NEW_LINE = 4, /* . matches a line feed, too */
     NFA_SWAP_GREED = 8,           /* x* and x*? mean each other */
     NFA_IGNORE_WHITESPACE = 16,   /* spaces and comments (# to the end of the line) in the pattern mean nothing */
     NFA_CRLF = 32,                /* \r\n ends a line */
@@ -99,8 +99,11 @@ typedef struct nfa_error {
 
 /* ---- One pattern ---- */
 
-/* Compiles the pattern, and frees what the handle had. NFA_OK, NFA_MEMORY, NFA_UTF8 or NFA_PATTERN. */
+/* Compiles the pattern with the default settings, and frees what the handle had. NFA_OK, NFA_MEMORY, NFA_UTF8 or
+ * NFA_PATTERN. */
 int32_t nfa_regex_new(nfa_regex *re, const uint8_t *pattern, size_t pattern_len);
+
+/* The same with these settings. */
 int32_t nfa_regex_new_with(nfa_regex *re, const uint8_t *pattern, size_t pattern_len, const nfa_options *options);
 
 /* Fills `to` with a copy, whose caches are its own, and frees what `to` had. NFA_OK, NFA_EMPTY if `from` is, or
@@ -167,8 +170,10 @@ int32_t nfa_regex_place(const uint8_t *pattern, size_t pattern_len, const nfa_op
 int32_t nfa_regex_set_new_with(nfa_set *set, const uint8_t *text, size_t text_len, const size_t *ends, size_t count,
                                const nfa_options *options);
 
-/* As nfa_regex_clone and nfa_regex_free. */
+/* As nfa_regex_clone. */
 int32_t nfa_regex_set_clone(nfa_set *from, nfa_set *to);
+
+/* As nfa_regex_free. */
 void nfa_regex_set_free(nfa_set *set);
 
 /* The number of patterns; 0 for an empty handle. */
@@ -182,9 +187,11 @@ int32_t nfa_regex_set_is_match(nfa_set *set, const uint8_t *hay, size_t len, siz
 int32_t nfa_regex_set_matches(nfa_set *set, const uint8_t *hay, size_t len, size_t start, size_t end, uint8_t *marks,
                               size_t marks_len);
 
-/* As nfa_regex_why and nfa_regex_place. The place has the number of the pattern, and bytes of its own text. */
+/* As nfa_regex_why. The message has the number of the pattern that is wrong. */
 size_t nfa_regex_set_why(const uint8_t *text, size_t text_len, const size_t *ends, size_t count,
                          const nfa_options *options, uint8_t *message, size_t room);
+
+/* As nfa_regex_place, or NFA_RANGE. The place has the number of the pattern, and bytes of its own text. */
 int32_t nfa_regex_set_place(const uint8_t *text, size_t text_len, const size_t *ends, size_t count,
                             const nfa_options *options, nfa_match *place);
 

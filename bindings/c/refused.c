@@ -48,6 +48,18 @@ static int32_t make_regex(bool *right) {
     return code;
 }
 
+/* Why a text is not a pattern, in words, and where; or that memory was refused for that. */
+static int32_t make_error(bool *right) {
+    nfa_regex re = NFA_REGEX_INIT;
+    nfa_error error;
+    int32_t code = nfa_compile(&re, "a(b", 3, NULL, &error);
+    bool told = strncmp(error.message, "at 1..", 6) == 0, placed = error.place.start == 1;
+    *right = error.code == code && (code == NFA_PATTERN || code == NFA_MEMORY);
+    *right = *right && (told ? code == NFA_PATTERN : strcmp(error.message, "out of memory") == 0);
+    *right = *right && (placed ? code == NFA_PATTERN : error.place.start == NFA_UNSET);
+    return told && placed ? (int32_t)NFA_OK : (int32_t)NFA_MEMORY;
+}
+
 static int32_t make_set(bool *right) {
     nfa_set set = NFA_SET_INIT, copy = NFA_SET_INIT;
     const void *patterns[] = {"[a-z]+", "[0-9]"};
@@ -110,6 +122,7 @@ static bool refuse_in_turn(const char *name, int32_t (*make)(bool *)) {
 
 int main(void) {
     bool passed = refuse_in_turn("regex", make_regex);
+    passed = refuse_in_turn("error", make_error) && passed;
     passed = refuse_in_turn("set", make_set) && passed;
     passed = refuse_in_turn("texts", make_texts) && passed;
     if (passed)
