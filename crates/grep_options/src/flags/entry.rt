@@ -126,7 +126,7 @@ fn named<'w>(arg: Arg<'w>, name: &'static str) -> Arg<'w> {
 
 /// Adds what the value is if it is left out.
 fn with_default<'w>(arg: Arg<'w>, value: &'static str) -> Arg<'w> {
-    arg.num_args(0..=1)
+    arg.num_args(..=1)
         .require_equals(true)
         .default_missing_value(value)
 }
