@@ -1,1 +1,2 @@
 mod GlobLemmas
+mod OutcomeLemmas

@@ -6,6 +6,8 @@ pub use Rattle.grep_options.specs.declared.rules.Rule.{Rule}
 pub use Rattle.grep_options.specs.declared.glob.Letter.{Letter}
 pub use Rattle.grep_options.specs.declared.glob.Token.{Token}
 pub use Rattle.grep_options.specs.declared.glob.Token.TheVariants as token
+pub use Rattle.grep_options.specs.declared.matching.Outcome.{Outcome}
+pub use Rattle.grep_options.specs.declared.matching.Outcome.TheVariants as outcome
 
 -- a character of a glob that may have a meaning of its own
 abbrev pub bare : ℕ → Letter
@@ -57,6 +59,13 @@ takes AnyChar c = true
 takes AnyText c = true
 takes (InSet negated letters) c = if negated then not (set_has letters c) else set_has letters c
 
+-- whether the part is any text
+abbrev pub is_any_text : Part → Bool
+is_any_text (OneChar a) = false
+is_any_text AnyChar = false
+is_any_text AnyText = true
+is_any_text (InSet negated letters) = false
+
 -- whether something is so of a text, or of what is left of it after some characters
 abbrev pub some_rest : (List ℕ → Bool) → List ℕ → Bool
 some_rest p [] = p []
@@ -80,6 +89,18 @@ parts_match (OneChar a ∷ parts) text = takes_first (takes (OneChar a)) (parts_
 parts_match (AnyChar ∷ parts) text = takes_first (takes AnyChar) (parts_match parts) text
 parts_match (InSet negated letters ∷ parts) text =
     takes_first (takes (InSet negated letters)) (parts_match parts) text
+
+-- whether the parts match the text
+abbrev pub is_match : Outcome → Bool
+is_match outcome.Match = true
+is_match outcome.Other = false
+is_match outcome.Short = false
+
+-- whether the text, and what is left of it after some characters, is too short for the parts
+abbrev pub is_short : Outcome → Bool
+is_short outcome.Match = false
+is_short outcome.Other = false
+is_short outcome.Short = true
 
 -- the number of letters that negate the set which begins here, after a bracket
 abbrev pub negation : List Letter → ℕ

@@ -5,7 +5,7 @@ use crate::given::{file_rules_of, folder_rules_of, texts_of};
 use crate::options::{BinaryFiles, Bounds, Context, Devices, Folders, Options, Report, When};
 use crate::rules::Rule;
 use crate::syntax::Syntax;
-use clap::{Arg, ArgAction, ArgMatches, Error};
+use clap::{ArgMatches, Error};
 use std::alloc::{AllocError, Global};
 
 /// What `--version` prints after the name of the program.
@@ -100,22 +100,10 @@ pub fn parse<'w>(alloc: Global, words: &'w [&'w str]) -> Result<Command<'w>, Opt
         .args_override_self(true)
         // The beginning of a long option that no other one has will do.
         .infer_long_args(true);
-    let command = with_flags(alloc, command)?.arg(words_argument(alloc)?)?;
-    match command.try_get_matches_from(words) {
+    match with_flags(alloc, command)?.try_get_matches_from(words) {
         Ok(matches) => Ok(Command::Search(read_matches(alloc, &matches)?)),
         Err(error) => Ok(Command::Say(error)),
     }
-}
-
-/// The arguments that belong to no option: the pattern if there is no `-e` and no `-f`, and the files.
-fn words_argument<'w>(alloc: Global) -> Result<Arg<'w>, AllocError> {
-    Arg::new(alloc, "words")
-        .action(ArgAction::Append)
-        .num_args(0..)
-        .value_name("PATTERN|FILE")
-        .help("The pattern, unless -e or -f is given, and the files")
-        .required_unless_present("regexp")?
-        .required_unless_present("file")
 }
 
 fn read_matches<'w>(

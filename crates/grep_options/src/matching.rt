@@ -1,32 +1,84 @@
 //! The names that the parts of a glob match.
-ghost use Rattle.std.specs.Prelude.{◌≡◌, ◌==◌, ◌&&◌, map, nat_le};
-ghost use Rattle.grep_options.specs.Globs.{part_of, parts_match, set_has, some_rest, some_tail, takes};
+ghost use Rattle.std.specs.Prelude.{◌≡◌, ◌==◌, ◌&&◌, false, map, nat_le, true};
+ghost use Rattle.grep_options.specs.Globs.{is_any_text, is_match, is_short, part_of, parts_match, set_has, some_rest};
+ghost use Rattle.grep_options.specs.Globs.{some_tail, takes};
 
 use crate::glob::{Letter, Token};
 
-/// Returns whether these parts match the whole text.
-#[cycle(parts)]
+/// What comes of parts of a glob and a text.
+#[derive(Clone, Copy)]
+pub enum Outcome {
+    /// The parts match the whole text.
+    Match,
+    /// They do not.
+    Other,
+    /// They do not, and they match nothing that is left of the text after some characters. It is too short for them.
+    Short,
+}
+
+/// Returns whether these parts match the whole text, in time that grows with their number times its length.
 pub fn parts_match(tokens: &[Token<'_>], text: &[char]) -> bool
     ensures { result ≡ parts_match (map part_of tokens.now) text.now }
 {
-    match tokens {
-        [] => text.is_empty(),
-        [Token::Star, others @ ..] => some_rest_matches(others, text),
-        [token, others @ ..] => match text {
-            [first, rest @ ..] => takes(*token, *first) && parts_match(others, rest),
-            [] => false,
-        },
+    match outcome_of(tokens, text) {
+        Outcome::Match => true,
+        Outcome::Other | Outcome::Short => false,
     }
 }
 
-/// Returns whether these parts match the text, or what is left of it after some characters.
+/// Returns what comes of these parts and the text. The parts after a star are tried at one character after another, until
+/// they match or the text is too short for them. It is then too short for the parts before the star, too, so these are
+/// tried nowhere else.
 #[cycle(parts)]
-fn some_rest_matches(tokens: &[Token<'_>], text: &[char]) -> bool
-    ensures { result ≡ some_rest (parts_match (map part_of tokens.now)) text.now }
+fn outcome_of(tokens: &[Token<'_>], text: &[char]) -> Outcome
+    ensures matched { is_match result ≡ parts_match (map part_of tokens.now) text.now }
+    ensures short { is_short result ≡ true → some_rest (parts_match (map part_of tokens.now)) text.now ≡ false }
 {
-    match text {
-        [] => parts_match(tokens, text),
-        [_, rest @ ..] => parts_match(tokens, text) || some_rest_matches(tokens, rest),
+    match tokens {
+        [] => match text {
+            [] => Outcome::Match,
+            _ => Outcome::Other,
+        },
+        [first, others @ ..] => {
+            if is_star(*first) {
+                return outcome_of_rests(others, text);
+            }
+            match text {
+                [] => Outcome::Short,
+                [character, rest @ ..] => {
+                    if takes(*first, *character) {
+                        outcome_of(others, rest)
+                    } else {
+                        Outcome::Other
+                    }
+                }
+            }
+        }
+    }
+}
+
+/// Returns whether the part is any text.
+fn is_star(token: Token<'_>) -> bool
+    ensures { result ≡ is_any_text (part_of token.entry) }
+{
+    match token {
+        Token::Star => true,
+        Token::Is(_) | Token::Any | Token::Set(_, _) => false,
+    }
+}
+
+/// Returns what comes of these parts and the text, or what is left of it after some characters.
+#[cycle(parts)]
+fn outcome_of_rests(tokens: &[Token<'_>], text: &[char]) -> Outcome
+    ensures { is_match result ≡ some_rest (parts_match (map part_of tokens.now)) text.now }
+{
+    match outcome_of(tokens, text) {
+        Outcome::Match => Outcome::Match,
+        Outcome::Short => Outcome::Short,
+        Outcome::Other => match text {
+            [] => Outcome::Short,
+            [_, rest @ ..] => outcome_of_rests(tokens, rest),
+        },
     }
 }
 
@@ -36,9 +88,12 @@ pub fn some_tail_matches(tokens: &[Token<'_>], text: &[char]) -> bool
 {
     match text {
         [] => false,
-        [first, rest @ ..] => {
-            *first == '/' && parts_match(tokens, rest) || some_tail_matches(tokens, rest)
-        }
+        [first, rest @ ..] if *first == '/' => match outcome_of(tokens, rest) {
+            Outcome::Match => true,
+            Outcome::Short => false,
+            Outcome::Other => some_tail_matches(tokens, rest),
+        },
+        [_, rest @ ..] => some_tail_matches(tokens, rest),
     }
 }
 

@@ -2,7 +2,7 @@
 ghost use Rattle.std.specs.Prelude.{◌≡◌, IfOk};
 ghost use Rattle.grep_options.specs.Globs.{begins_with_included, decided, is_left_out, rule_fits};
 
-use crate::glob::{Token, chars_of, letters_of, tokens_of};
+use crate::glob::{Letter, Token, chars_of, letters_of, tokens_of};
 use crate::matching::{parts_match, some_tail_matches};
 use std::alloc::{AllocError, Global};
 
@@ -79,10 +79,19 @@ pub fn has_class(alloc: Global, glob: &str) -> Result<bool, AllocError> {
 /// Returns whether a class begins in the set.
 fn begins_class(token: &Token<'_>) -> bool {
     match token {
-        Token::Set(_, letters) => letters.iter().zip(letters.iter().skip(1)).any(|(
-            bracket,
-            next,
-        )| bracket.means('[') && matches!(next.value, ':' | '=' | '.')),
+        Token::Set(_, letters) => has_class_start(letters),
         _ => false,
     }
+}
+
+/// Returns whether a bracket and one of the characters that begin a class are among these.
+fn has_class_start(letters: &[Letter]) -> bool {
+    let mut after_bracket = false;
+    for letter in letters {
+        if after_bracket && matches!(letter.value, ':' | '=' | '.') {
+            return true;
+        }
+        after_bracket = letter.means('[');
+    }
+    false
 }

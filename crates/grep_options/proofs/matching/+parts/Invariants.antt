@@ -2,8 +2,8 @@
 use Rattle.std.proofs.Common.{◌+◌, ◌*◌, length}
 use Rattle.grep_options.proofs.matching.+parts.Given as goal
 
-abbrev pub decreases-parts_match : goal.decreases-parts_match
-decreases-parts_match l = 2 * (length l.tokens.now + length l.text.now)
+abbrev pub decreases-outcome_of : goal.decreases-outcome_of
+decreases-outcome_of l = 2 * (length l.tokens.now + length l.text.now)
 
-abbrev pub decreases-some_rest_matches : goal.decreases-some_rest_matches
-decreases-some_rest_matches l = 2 * (length l.tokens.now + length l.text.now) + 1
+abbrev pub decreases-outcome_of_rests : goal.decreases-outcome_of_rests
+decreases-outcome_of_rests l = 2 * (length l.tokens.now + length l.text.now) + 1

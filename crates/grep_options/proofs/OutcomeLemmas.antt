@@ -1,0 +1,115 @@
+-- What the outcome of parts of a glob and a text says of what is left of the text.
+use Rattle.std.proofs.Common.{◌≡◌, ℕ, ◌-◌, ◌≤◌, Bool, true, false, ◌&&◌, ◌==◌, List, [], ◌∷◌, length, drop, get_or, map, take, refl, sym, ap, ◌∙◌, arith, take_all}
+use Rattle.std.proofs.lemmas.Bool.{and_right, or_from, or_left, or_parts}
+use Rattle.grep_options.specs.declared.matching.Outcome.TheVariants as outcome
+use Rattle.grep_options.specs.Globs.{AnyChar, AnyText, InSet, OneChar, Outcome, Part, Token, is_any_text, is_match, is_short, part_of, parts_match, some_rest, some_tail, takes, takes_first}
+
+-- parts that match the text match it, or what is left of it after some characters
+pub whole_is_rest : (p : List ℕ → Bool) (text : List ℕ) → p text ≡ true → some_rest p text ≡ true
+whole_is_rest p [] here = here
+whole_is_rest p (c ∷ cs) here = or_left (p (c ∷ cs)) (some_rest p cs) here
+
+-- what is so of nothing that is left of a text is not so of the text
+not_whole : (p : List ℕ → Bool) (text : List ℕ) → some_rest p text ≡ false → p text ≡ false
+not_whole p [] none = none
+not_whole p (c ∷ cs) none = (or_parts (p (c ∷ cs)) (some_rest p cs) none).0
+
+-- an outcome for a text that is too short is none of a match
+pub short_is_none : (o : Outcome) (b : Bool) → is_match o ≡ b → is_short o ≡ true → b ≡ false
+short_is_none outcome.Match b same short = cc
+short_is_none outcome.Other b same short = sym same
+short_is_none outcome.Short b same short = sym same
+
+-- the other ones, as a slice has them
+rest_is : {A : Type 0} (x : A) (xs : List A) → take (length (x ∷ xs) - 1) (drop 1 (x ∷ xs)) ≡ xs
+rest_is x xs = take_all (length (x ∷ xs) - 1) (drop 1 (x ∷ xs)) (omega arith)
+
+-- what parts match that begin with any text
+star_is : (ps : List Part) (p : Part) → is_any_text p ≡ true
+    → (text : List ℕ) → parts_match (p ∷ ps) text ≡ some_rest (parts_match ps) text
+star_is ps (OneChar a) star text = cc
+star_is ps AnyChar star text = cc
+star_is ps AnyText star text = refl
+star_is ps (InSet negated letters) star text = cc
+
+-- what parts match that begin with something else
+first_is : (ps : List Part) (p : Part) → is_any_text p ≡ false
+    → (text : List ℕ) → parts_match (p ∷ ps) text ≡ takes_first (takes p) (parts_match ps) text
+first_is ps (OneChar a) star text = refl
+first_is ps AnyChar star text = refl
+first_is ps AnyText star text = cc
+first_is ps (InSet negated letters) star text = refl
+
+-- the parts of a slice that begins with any text
+pub parts_with_star : (tokens : List Token) (x : Token) → 1 ≤ length tokens
+    → is_any_text (part_of (get_or tokens 0 x)) ≡ true → (text : List ℕ)
+    → parts_match (map part_of tokens) text
+    ≡ some_rest (parts_match (map part_of (take (length tokens - 1) (drop 1 tokens)))) text
+parts_with_star [] x long star text = absurd (omega arith)
+parts_with_star (t ∷ ts) x long star text =
+    star_is (map part_of ts) (part_of t) star text
+    ∙ ap (λ (l : List Token). some_rest (parts_match (map part_of l)) text) (sym (rest_is t ts))
+
+-- the parts of a slice that begins with something else
+pub parts_with_first : (tokens : List Token) (x : Token) → 1 ≤ length tokens
+    → is_any_text (part_of (get_or tokens 0 x)) ≡ false → (text : List ℕ)
+    → parts_match (map part_of tokens) text
+    ≡ takes_first (takes (part_of (get_or tokens 0 x)))
+    (parts_match (map part_of (take (length tokens - 1) (drop 1 tokens)))) text
+parts_with_first [] x long star text = absurd (omega arith)
+parts_with_first (t ∷ ts) x long star text =
+    first_is (map part_of ts) (part_of t) star text
+    ∙ ap (λ (l : List Token). takes_first (takes (part_of t)) (parts_match (map part_of l)) text) (sym (rest_is t ts))
+
+-- if a text is too short for some parts, it is for these with any text before them
+pub short_after_star : (ps qs : List Part)
+    → ((text : List ℕ) → parts_match ps text ≡ some_rest (parts_match qs) text)
+    → (text : List ℕ) → some_rest (parts_match qs) text ≡ false → some_rest (parts_match ps) text ≡ false
+short_after_star ps qs same [] none = same [] ∙ none
+short_after_star ps qs same (c ∷ cs) none =
+    or_from (parts_match ps (c ∷ cs)) (some_rest (parts_match ps) cs) (same (c ∷ cs) ∙ none)
+    (short_after_star ps qs same cs (or_parts (parts_match qs (c ∷ cs)) (some_rest (parts_match qs) cs) none).1)
+
+-- a text whose first character is matched, and the other ones are not
+rest_fails : (p : ℕ → Bool) (q : List ℕ → Bool) (c : ℕ) (cs : List ℕ) → q cs ≡ false
+    → takes_first p q (c ∷ cs) ≡ false
+rest_fails p q c cs none = and_right (p c) (q cs) none
+
+-- the same with one character before them
+shorter : (ps qs : List Part) (p : ℕ → Bool)
+    → ((text : List ℕ) → parts_match ps text ≡ takes_first p (parts_match qs) text)
+    → (c : ℕ) (cs : List ℕ) → some_rest (parts_match qs) cs ≡ false → some_rest (parts_match ps) (c ∷ cs) ≡ false
+shorter ps qs p same c [] none =
+    or_from (parts_match ps (c ∷ [])) (some_rest (parts_match ps) [])
+    (same (c ∷ []) ∙ rest_fails p (parts_match qs) c [] none) (same [])
+shorter ps qs p same c (d ∷ ds) none =
+    or_from (parts_match ps (c ∷ d ∷ ds)) (some_rest (parts_match ps) (d ∷ ds))
+    (same (c ∷ d ∷ ds) ∙ rest_fails p (parts_match qs) c (d ∷ ds)
+    (or_parts (parts_match qs (d ∷ ds)) (some_rest (parts_match qs) ds) none).0)
+    (shorter ps qs p same d ds (or_parts (parts_match qs (d ∷ ds)) (some_rest (parts_match qs) ds) none).1)
+
+-- the same, with the other characters as a slice has them
+pub short_after_first : (ps qs : List Part) (p : ℕ → Bool)
+    → ((text : List ℕ) → parts_match ps text ≡ takes_first p (parts_match qs) text)
+    → (text : List ℕ) → 1 ≤ length text
+    → some_rest (parts_match qs) (take (length text - 1) (drop 1 text)) ≡ false → some_rest (parts_match ps) text ≡ false
+short_after_first ps qs p same [] long none = absurd (omega arith)
+short_after_first ps qs p same (c ∷ cs) long none =
+    shorter ps qs p same c cs (ap (some_rest (parts_match qs)) (sym (rest_is c cs)) ∙ none)
+
+-- what is so of nothing that is left of a text is so of nothing after a slash in it
+none_after_slash : (p : List ℕ → Bool) (text : List ℕ) → some_rest p text ≡ false → some_tail p text ≡ false
+none_after_slash p [] none = refl
+none_after_slash p (c ∷ cs) none =
+    or_from ((c == 47) && p cs) (some_tail p cs)
+    (and_right (c == 47) (p cs) (not_whole p cs (or_parts (p (c ∷ cs)) (some_rest p cs) none).1))
+    (none_after_slash p cs (or_parts (p (c ∷ cs)) (some_rest p cs) none).1)
+
+-- the same, with what is left as a slice has it
+pub none_in_slice : (p : List ℕ → Bool) (text : List ℕ) → 1 ≤ length text
+    → some_rest p (take (length text - 1) (drop 1 text)) ≡ false → false ≡ some_tail p text
+none_in_slice p [] long none = absurd (omega arith)
+none_in_slice p (c ∷ cs) long none =
+    sym (or_from ((c == 47) && p cs) (some_tail p cs)
+    (and_right (c == 47) (p cs) (not_whole p cs (ap (some_rest p) (sym (rest_is c cs)) ∙ none)))
+    (none_after_slash p cs (ap (some_rest p) (sym (rest_is c cs)) ∙ none)))
