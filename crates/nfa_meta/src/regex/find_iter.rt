@@ -136,14 +136,20 @@ impl FindWith for ByWindow {
 
     ghost asks = { AsksByWindow };
 
-    #[inline]
+    // A call of its own, which has the search over known cells in it, so that the steps of an iteration are part of its
+    // loop.
+    #[inline(never)]
     fn answer(&mut self, regex: &mut Regex, input: &Input<'_>) -> Option<Match> {
         let known = ending_at(input.start(), self.known);
         if known.is_some() {
             return known;
         }
         let found = regex.find_by_ref(input);
-        self.known = ending_at(input.start(), found);
+        // What was known stays true, so nothing is written for a match that is not empty.
+        let here = ending_at(input.start(), found);
+        if here.is_some() {
+            self.known = here;
+        }
         found
     }
 
@@ -168,6 +174,7 @@ impl<'r, 'h> Iterator for FindMatches<'r, 'h> {
 
     ghost remaining = { λ s. infallible_left (finds_steps s).steps };
 
+    #[inline]
     fn next(&mut self) -> Option<Match> {
         match self.steps.next_with(self.regex) {
             Some(Ok(found)) => Some(found),

@@ -38,11 +38,7 @@ impl Regex {
         if !self.matched_at_first || !self.starts_anywhere(input) {
             return None;
         }
-        let at = self.first_start(input);
-        if !self.begins_at(input, at) {
-            return None;
-        }
-        Some(at)
+        self.first_begin(input)
     }
 
     /// Returns the match of a search, if known cells lead to one at this start, before which nothing matches.

@@ -128,6 +128,7 @@ impl<'r, 'h> Iterator for Split<'r, 'h> {
 
     ghost remaining = { split_left };
 
+    #[inline]
     fn next(&mut self) -> Option<Span> {
         if self.done {
             return None;

@@ -45,18 +45,23 @@ impl Regex {
         at
     }
 
-    /// Returns the first position of the span whose byte a match may begin with, or one near the start before which
-    /// nothing matches.
+    /// Returns the first position of the span whose byte a match may begin with, or its end. Returns `None` if that is not
+    /// near the start, or inside a codepoint.
     #[inline(always)]
-    pub(super) fn first_start(&self, input: &Input<'_>) -> usize
-        ensures first { IsFirstStart self.now.choice.nfa (search_of input.now) result }
-        ensures within { result ≤ (search_of input.now).end + 1 }
+    pub(super) fn first_begin(&self, input: &Input<'_>) -> Option<usize>
+        ensures first { IfSome result (IsFirstStart self.now.choice.nfa (search_of input.now)) }
+        ensures within { IfSome result (λ at. at ≤ (search_of input.now).end + 1) }
     {
         bytes_may_be_skipped();
         let start = input.start();
         let end = input.end();
         let until = start.saturating_add(REACH).min(end);
-        self.next_start(input, start, until)
+        let at = self.next_start(input, start, until);
+        let is_near = at < until || at >= end;
+        if !is_near || !input.is_char_boundary(at) {
+            return None;
+        }
+        Some(at)
     }
 
     /// Returns the match of a search, if the lazy DFA finds one at this start, before which nothing matches. Returns
@@ -81,12 +86,6 @@ impl Regex {
         let _ = &self.dfa;
         first_start_answers();
         self.find_anchored(input.range(at..input.end()).anchored(Anchored::Yes))
-    }
-
-    /// Whether a match may begin at the position: not inside a codepoint, and with its byte or at the end of the span.
-    #[inline(always)]
-    pub(super) fn begins_at(&self, input: &Input<'_>, at: usize) -> bool {
-        input.is_char_boundary(at) && (at >= input.end() || self.may_begin(input.haystack()[at]))
     }
 
     /// Whether the match is at the first start of its search, so that the next one may be, too. After a search that

@@ -154,6 +154,7 @@ impl Regex {
     }
 
     /// Returns the match that [`Regex::find`] returns. It copies no input for a match at the first start.
+    #[inline(always)]
     pub(super) fn find_by_ref(&mut self, input: &Input<'_>) -> Option<Match>
         ensures answer { let x = search_of input.now in
             IsFindAnswer self.old.choice.nfa (kind_in self.old.choice) x.earliest x (option_map found_of result) }
@@ -167,7 +168,9 @@ impl Regex {
             self.misses = 0;
             return Some(found);
         }
-        self.find_past_first(input)
+        // A name of its own, so that a match at the first start is in no memory that the call may write.
+        let found = self.find_past_first(input);
+        found
     }
 
     /// Returns the match of the search, which may be at another start than the first one, and notes whether it is there.

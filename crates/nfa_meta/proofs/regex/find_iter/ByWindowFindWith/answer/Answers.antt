@@ -22,8 +22,9 @@ returns-then-is_some c =
       knows = c.requires;
     }
 
-pub returns : goal.returns
-returns c =
+-- the match ends where the search started, so it is known
+pub returns-then-is_some-2 : goal.returns-then-is_some-2
+returns-then-is_some-2 c =
     let r = c.args.regex.now in
     let found = c.find_by_ref-found.result in
     let e = c.find_by_ref-found.ensures in
@@ -32,13 +33,27 @@ returns c =
       tells = find-answered r.choice.nfa (kind_in r.choice) x.earliest x found e.answer;
       work = record { runs = e.runs; holds = e.holds; keeps = e.keeps };
       knows =
-          subst (λ (vm : Pike). IsKnownFrom IsSureOf vm x c.ending_at-self.result)
+          subst (λ (vm : Pike). IsKnownFrom IsSureOf vm x c.ending_at-here.result)
           (sym (pike-kept r.choice c.find_by_ref-found.new.self.choice e.keeps.engines))
-          (known-kept pike_finder (pike_of r) x x.start c.ending_at-self.result (λ m is.
-          let k = c.ending_at-self.ensures.kept m is in (
+          (known-kept pike_finder (pike_of r) x x.start c.ending_at-here.result (λ m is.
+          let k = c.ending_at-here.ensures.kept m is in (
             finds-sure (pike_of r) x (found_of m)
                 (subst (λ (o : Option Match). IsFindAnswer r.choice.nfa (kind_in r.choice) x.earliest x
                 (option_map found_of o)) k.0 e.answer),
             k.1 ∙ c.start-2.ensures,
           )));
+    }
+
+-- what was known stays true
+pub returns-else-is_some-2 : goal.returns-else-is_some-2
+returns-else-is_some-2 c =
+    let r = c.args.regex.now in
+    let found = c.find_by_ref-found.result in
+    let e = c.find_by_ref-found.ensures in
+    let x = search_of c.args.input.now in
+    record {
+      tells = find-answered r.choice.nfa (kind_in r.choice) x.earliest x found e.answer;
+      work = record { runs = e.runs; holds = e.holds; keeps = e.keeps };
+      knows = subst (λ (vm : Pike). IsKnownFrom IsSureOf vm x c.args.self.now.known)
+          (sym (pike-kept r.choice c.find_by_ref-found.new.self.choice e.keeps.engines)) c.requires;
     }
