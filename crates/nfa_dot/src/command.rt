@@ -6,12 +6,15 @@ use std::alloc::{AllocError, Global};
 /// How the program is called.
 const USAGE: &str = "nfa_dot NAME [HAYSTACK]\n       nfa_dot --pattern TEXT [HAYSTACK]";
 
+/// What `--version` prints after the name of the program.
+const VERSION: &str = "0.1.0";
+
 /// What the help says below the options.
 const AFTER: &str = "\
 With a haystack, the path of the match that a search of it finds is red.
 Make a picture of the graph with Graphviz: nfa_dot --pattern 'ab+' xabb | dot -Tsvg > picture.svg
 
-Status: 0, or 2 after an error.";
+Status: 0, or 2 after an error. If nobody reads the output any more, the program ends silently with status 141.";
 
 /// Where the NFA comes from.
 #[derive(Clone, Copy)]
@@ -41,6 +44,7 @@ pub fn parse<'w>(alloc: Global, words: &'w [&'w str]) -> Result<Command<'w>> {
     args.push(words_argument(alloc)?)?;
     let command = clap::Command::new(alloc, "nfa_dot")
         .about("Prints an NFA as a graph for Graphviz.")
+        .version(VERSION)
         .override_usage(USAGE)
         .after_help(AFTER)
         .args(args)?;

@@ -15,13 +15,16 @@ use nfa_compiler::{Compiler, OnlyPattern};
 use nfa_engines::pikevm::PikeVM;
 use nfa_samples::sample;
 use std::alloc::Global;
-use std::io::BufWriter;
+use std::io::{BufWriter, ErrorKind};
 use std::process::ExitCode;
 use std::{env, io};
 use thompson_nfa::NFA;
 
 /// The arguments or the pattern are wrong, the output cannot be written, or memory ran out.
 const FAILED: u8 = 2;
+
+/// Nobody reads the output any more: the status that a shell has of a program which the signal for that ends.
+const CLOSED: u8 = 128 + 13;
 
 fn main(rt: HostRuntime) -> ExitCode {
     match answer(&rt) {
@@ -39,22 +42,22 @@ fn answer(rt: &HostRuntime) -> Result<ExitCode> {
     let words: Vec<String> = env::args(rt)?.collect(alloc)?;
     let words: Vec<&str> = words.iter().map(|word| word.as_str()).collect(alloc)?;
     match parse(alloc, &words)? {
-        Command::Draw { source, haystack } => {
-            draw(rt, source, haystack)?;
-            Ok(ExitCode::SUCCESS)
-        }
+        Command::Draw { source, haystack } => draw(rt, source, haystack),
         Command::Say(error) => say(rt, &error),
     }
 }
 
-/// Prints the help, or what is wrong with the arguments.
+/// Prints the help or the version, or what is wrong with the arguments.
 fn say(rt: &HostRuntime, error: &Error) -> Result<ExitCode> {
     let code = if error.use_stderr() { FAILED } else { 0 };
-    error.print(rt)?;
-    Ok(ExitCode::from(code))
+    match error.print(rt) {
+        Ok(()) => Ok(ExitCode::from(code)),
+        Err(failure) if failure.kind() == ErrorKind::BrokenPipe => Ok(ExitCode::from(CLOSED)),
+        Err(failure) => Err(failure.into()),
+    }
 }
 
-fn draw(rt: &HostRuntime, source: Source<'_>, haystack: Option<&str>) -> Result<()> {
+fn draw(rt: &HostRuntime, source: Source<'_>, haystack: Option<&str>) -> Result<ExitCode> {
     let alloc = rt.alloc();
     let vm = PikeVM::new_from_nfa(nfa_of(alloc, source)?)?;
     let marks = marks_of(alloc, &vm, haystack)?;
@@ -72,10 +75,11 @@ fn marks_of(alloc: Global, vm: &PikeVM, haystack: Option<&str>) -> Result<Marks>
     }
 }
 
-fn print_graph(rt: &HostRuntime, nfa: &NFA, marks: &Marks) -> Result<()> {
+fn print_graph(rt: &HostRuntime, nfa: &NFA, marks: &Marks) -> Result<ExitCode> {
     let mut out = BufWriter::new(rt.alloc(), io::writer(rt))?;
     match write_graph(rt.alloc(), &mut out, nfa, marks) {
-        Ok(()) => Ok(()),
+        Ok(()) => Ok(ExitCode::SUCCESS),
+        Err(error) if error.kind() == ErrorKind::BrokenPipe => Ok(ExitCode::from(CLOSED)),
         Err(error) => bail!("cannot write the graph: {error}"),
     }
 }

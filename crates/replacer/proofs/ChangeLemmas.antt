@@ -70,9 +70,10 @@ module _ (request : Request) (style : Style) where
         written = going.written ++ here;
         writes = Appends-trans old out next going.written here going.writes appends;
         goes_on = λ more others are.
+            let one = first-of number (lines_of going.rest) (lines_of first.rest) line made more others first.lines_are
+            becomes are in
             regroup (lines_of text) going.written here more count counted others
-            (going.goes_on (here ++ more) (counted + others)
-            (first-of number (lines_of going.rest) (lines_of first.rest) line made more others first.lines_are becomes are));
+            (going.goes_on (here ++ more) (counted + others) one);
       }
 
   -- nothing was left to read

@@ -5,7 +5,7 @@ use Rattle.std.proofs.KnownBytes.{Appends-nil, Appends-trans, prepend_known-nil}
 use Rattle.text_lines.specs.Lines.{lines_of, HasNoRecord, TakesRecord, line_feed}
 use Rattle.text_lines.proofs.LineLemmas.{first-line, none-left}
 use Rattle.nfa_compiler.specs.Patterns.{PatternHit}
-use Rattle.replacer.specs.Hits.{Groups}
+use Rattle.replacer.specs.Fillings.{Groups}
 use Rattle.replacer.specs.Printed.{HasWritten, feed_of, left_by, lines_shown, shown, without_feed, Prints}
 use Rattle.replacer.specs.declared.action.Action.{Action}
 use Rattle.replacer.specs.declared.command.Request.{Request}

@@ -1,18 +1,27 @@
--- From the text that was read to the reader, from the groups of the NFA to those of the pattern, and limits of lists.
-use Rattle.std.proofs.Common.{◌≡◌, ℕ, ◌-◌, ◌<◌, List, [], ◌∷◌, map, take, arith, Option, IfSome, length, All, None, Some}
+-- From the text that was read to the reader, from the groups of the NFA to those of the patterns, and limits of lists.
+use Rattle.std.proofs.Common.{◌≡◌, ℕ, ◌-◌, ◌<◌, List, [], ◌∷◌, map, get_or, take, arith, Option, IfSome, length, All, None, Some}
 use Rattle.std.specs.Io.KnownBytes.{Appends}
 use Rattle.std.proofs.lemmas.Bool.Decides.{nat_tests}
 use Rattle.nfa_compiler.specs.Common.{Re, PatternHit, found_at}
 use Rattle.nfa_compiler.specs.Laws.{GroupsAreNamed}
 use Rattle.nfa_engines.specs.Paths.{is_utf8_empty}
 use Rattle.nfa_meta.specs.ChoiceState.{ChoiceState, KeepsEngines}
-use Rattle.replacer.specs.Hits.{AreHitsOf, HasNames, IsSearchOf, SearchesFor, Sought, groups_named_by, syntax_of}
-use Rattle.replacer.specs.Printed.{IsActionOf, IsMisused, IsPatternMistake, IsTemplateMistake, Prints, printed, sought, left_after, limited}
+use Rattle.replacer.specs.Hits.{AreHitsOf, HaveNames, IsSearchOf, SearchesFor, Sought, groups_named_by, syntax_of}
+use Rattle.replacer.specs.Printed.{IsActionOf, IsMisused, IsPatternMistake, IsTemplateMistake, Prints, mistake_by, printed, sought, template_mistake, left_after, limited}
 use Rattle.replacer.specs.Separated.{first_fields_by, gaps}
+use Rattle.replacer.specs.Fillings.{Groups, IsBadStretch}
+use Rattle.replacer.specs.Stretches.{all_stretched}
+use Rattle.replacer.specs.declared.command.Command.TheVariants.{Replace}
+use Rattle.replacer.specs.declared.filling.BadStretch.{BadStretch}
+use Rattle.replacer.specs.declared.stretches.Stretch.{Stretch}
+use Rattle.nfa_meta.specs.declared.interpolate.TemplateError.{TemplateError}
+use Rattle.nfa_meta.specs.declared.interpolate.TemplateError.TheVariants as template
+use Rattle.std.specs.Borrow.{Bor}
+use Rattle.std.specs.Global.{Vec}
 use Rattle.replacer.specs.declared.action.Action.{Action}
 use Rattle.replacer.specs.declared.command.Request.{Request}
 use Rattle.replacer.specs.declared.job.Mistake.{Mistake}
-use Rattle.replacer.specs.declared.job.Mistake.TheVariants.{Memory, Pattern, Template}
+use Rattle.replacer.specs.declared.job.Mistake.TheVariants.{Memory, OnlyPattern, Pattern, Template}
 use Rattle.std.proofs.lemmas.List.{length-map, length-take, take-map}
 use Rattle.std.proofs.lemmas.List.Elements.{All-take}
 use Rattle.regex_search_core.specs.Search.{Search}
@@ -26,9 +35,9 @@ pub at-read : (all : Option (List ℕ)) (read text : List ℕ) (P : List ℕ →
 at-read all read text P same is p = grind arith
 
 -- after searches the regex searches for the same
-pub search-kept : (pattern : Sought) (re : Re) (old new : ChoiceState) → KeepsEngines old new
-    → SearchesFor pattern re old → SearchesFor pattern re new
-search-kept pattern re old new keeps of = record {
+pub search-kept : (sought : Sought) (res : List Re) (old new : ChoiceState) → KeepsEngines old new
+    → SearchesFor sought res old → SearchesFor sought res new
+search-kept sought res old new keeps of = record {
   search = record {
     compiled = rw keeps.nfa of.search.compiled;
     leftmost = rw keeps.match_kind of.search.leftmost;
@@ -42,39 +51,51 @@ pub first-by : (limit : ℕ) (text : List ℕ) (hits : List PatternHit) → 0 < 
     → gaps text 0 (take (limit - 1) (map found_at hits)) ≡ first_fields_by limit text hits
 first-by limit text hits some = grind (arith, nat_tests)
 
--- what is wrong with the pattern is wrong with the request
+-- what is wrong with the patterns is wrong with the request
 pub pattern-misused : (request : Request) (mistake : Mistake) → IsPatternMistake (sought request) mistake
     → IsMisused request mistake
 pattern-misused request mistake h = grind arith
 
--- what is printed for the groups of the NFA is printed for those of the pattern
+-- what is wrong with the template of this number is wrong with the command
+pub template-misused : (groups : Groups) (templates : Bor (List (Vec Stretch))) (number : ℕ) (bad : BadStretch)
+    → IsBadStretch groups number (get_or (all_stretched templates.now) number []) bad
+    → IsTemplateMistake groups (Replace templates) (template_mistake number bad)
+template-misused groups templates number bad h = of bad.error
+  where
+    of : (e : TemplateError) → IsTemplateMistake groups (Replace templates)
+        (mistake_by (Template (record { number = number; bad = bad })) e)
+    of template.Memory = tt
+    of (template.UnknownGroup start end) = h
+    of (template.Unclosed dollar) = h
+
+-- what is printed for the groups of the NFA is printed for those of the patterns
 module _ (law : GroupsAreNamed) (request : Request) (r : ChoiceState) (of : IsSearchOf (sought request) r) where
-  pub groups-are : (names : List (Option (List ℕ))) → HasNames (sought request) names
+  pub groups-are : (names : List (List (Option (List ℕ)))) → HaveNames (sought request) names
       → r.nfa.groups ≡ groups_named_by names
-  groups-are names named =
-      law (syntax_of (sought request)) ((sought request).text ∷ []) (names ∷ []) r.nfa of.compiled (named, tt)
+  groups-are names named = law (syntax_of (sought request)) (sought request).texts names r.nfa of.compiled named
 
   pub prints : (act : Action) (input old new : Option (List ℕ)) → IsActionOf r.nfa.groups request.command act
-      → ((pattern : Sought) (re : Re) (hits : List ℕ → List PatternHit) → SearchesFor pattern re r
-      → AreHitsOf re (is_utf8_empty r.nfa) hits
+      → ((which : Sought) (res : List Re) (hits : List ℕ → List PatternHit) → SearchesFor which res r
+      → AreHitsOf res (is_utf8_empty r.nfa) hits
       → IfSome input (λ text. Appends old new
       (printed r.nfa.groups hits act request.whole request.limit text)))
       → Prints request input old new
-  prints act input old new is h = λ re names meant named.
+  prints act input old new is h = λ res names meant named.
       let groups = groups-are names named in (
         is_utf8_empty r.nfa,
         act,
         rw (← groups) is,
         λ hits all.
-            rw (← groups) (h (sought request) re hits (record { search = of; meant = meant }) all),
+            rw (← groups) (h (sought request) res hits (record { search = of; meant = meant }) all),
       )
 
   -- so is a mistake
   pub misused : (mistake : Mistake) → IsTemplateMistake r.nfa.groups request.command mistake
       → IsMisused request mistake
   misused Memory h = tt
+  misused (OnlyPattern error) h = absurd (grind arith)
   misused (Pattern error) h = absurd (grind arith)
-  misused (Template error) h = λ names named. rw (← groups-are names named) h
+  misused (Template filling) h = λ names named. rw (← groups-are names named) h
 
 pub limited-map : {A B : Type 0} (f : A → B) (limit : Option ℕ) (xs : List A)
     → limited limit (map f xs) ≡ map f (limited limit xs)

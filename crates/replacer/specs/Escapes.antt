@@ -2,10 +2,12 @@
 use Rattle.std.specs.Prelude.{ℕ, ◌+◌, ◌*◌, ◌-◌, ◌≡◌, ◌≢◌, ◌⊎◌, ◌<◌, ◌≤◌, ◌&&◌, List, [], ◌∷◌, Option, Some, None, encode_utf8, flat_map, fold, if◌then◌else◌, length, nat_eq, nat_lt, reverse, slice_index, slice_range, ⊤}
 use Rattle.std.specs.Char.{IsScalar, digit_value}
 use Rattle.std.specs.List.{AllWithin}
+use Rattle.replacer.specs.declared.case.CaseEscape.{CaseEscape}
+use Rattle.replacer.specs.declared.case.CaseEscape.TheVariants as escape
 use Rattle.replacer.specs.declared.escapes.EscapeError.{EscapeError}
 use Rattle.replacer.specs.declared.escapes.EscapeError.TheVariants as error
 use Rattle.replacer.specs.declared.escapes.Sign.{Sign}
-use Rattle.replacer.specs.declared.escapes.Sign.TheVariants.{AsItIs, Byte, Character}
+use Rattle.replacer.specs.declared.escapes.Sign.TheVariants.{AsItIs, Byte, Case, Character}
 
 -- the bytes `$` and `\`
 abbrev pub dollar : ℕ
@@ -80,17 +82,26 @@ module _ (text : List ℕ) where
     pub wrong : (end ≡ start + 3) ⊎ (¬ Has end 125)
         ⊎ ((c : ℕ) → hex_number (slice_range text (start + 3) end) ≡ Some c → ¬ IsScalar c)
 
+  -- a backslash and an `E`, a `U`, an `L`, a `u` that is no `\u{`, or an `l`, which says this case
+  abbrev pub IsCaseEscape : ℕ → CaseEscape → Type 0
+  IsCaseEscape at escape.End = Escapes at 69
+  IsCaseEscape at escape.Upper = Escapes at 85
+  IsCaseEscape at escape.Lower = Escapes at 76
+  IsCaseEscape at escape.FirstUpper = Escapes at 117 × ¬ Has (at + 2) 123
+  IsCaseEscape at escape.FirstLower = Escapes at 108
+
   -- there is a backslash that begins an escape
   abbrev pub BeginsEscape : ℕ → Type 0
   BeginsEscape at =
-      Escapes at 110 ⊎ Escapes at 116 ⊎ Escapes at 114 ⊎ Escapes at backslash ⊎ Escapes at 120
-      ⊎ (Escapes at 117 × Has (at + 2) 123)
+      Escapes at 110 ⊎ Escapes at 116 ⊎ Escapes at 114 ⊎ Escapes at backslash ⊎ Escapes at 120 ⊎ Escapes at 117
+      ⊎ Escapes at 69 ⊎ Escapes at 85 ⊎ Escapes at 76 ⊎ Escapes at 108
 
   -- the text between these offsets is this sign
   abbrev pub IsSign : ℕ → ℕ → Sign → Type 0
   IsSign start end (AsItIs byte) = (end ≡ start + 1) × (slice_index text start ≡ byte) × ¬ BeginsEscape start
   IsSign start end (Byte byte) = ((end ≡ start + 2) × IsLetter start byte) ⊎ ((end ≡ start + 4) × IsHexByte start byte)
   IsSign start end (Character c) = IsInBraces start end c
+  IsSign start end (Case escape after) = (end ≡ start + 2) × IsCaseEscape start escape × (after ≡ end)
 
   -- signs from the last to the first: the last ends at this offset, each starts where the one before it in the text
   -- ends, and the first starts at 0
@@ -113,13 +124,10 @@ module _ (text : List ℕ) where
 abbrev pub quoted_byte : ℕ → List ℕ
 quoted_byte byte = if nat_eq byte dollar then dollar ∷ dollar ∷ [] else byte ∷ []
 
--- the template that means a sign: a byte as it is may begin the name of a group, and what an escape stands for does not
+-- The template that means a sign: a byte as it is may begin the name of a group, and what an escape stands for does
+-- not. An escape of the case stands for nothing.
 abbrev pub sign_text : Sign → List ℕ
 sign_text (AsItIs byte) = byte ∷ []
 sign_text (Byte byte) = quoted_byte byte
 sign_text (Character c) = flat_map quoted_byte (encode_utf8 c)
-
--- this template has no escapes, and means what the text with escapes means
-abbrev pub IsUnescaped : List ℕ → List ℕ → Type 0
-IsUnescaped text template =
-    (signs : List Sign) × AreSigns text signs (length text) × (template ≡ flat_map sign_text signs)
+sign_text (Case escape after) = []

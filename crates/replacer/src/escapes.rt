@@ -1,10 +1,12 @@
-//! The escapes of a template: what a person types for a byte or a character that is hard to type.
+//! The escapes of a template: what a person types for a byte or a character that is hard to type, and for the case of
+//! letters.
 ghost use Rattle.std.specs.Prelude.{◌≡◌, ◌<◌, ◌≤◌, ◌+◌, ◌^◌, ◌++◌, ℕ, None, Some, IfErr, IfOk, IfSome, OnOk, encode_utf8, flat_map, length};
 ghost use Rattle.std.specs.Prelude.{slice_index, slice_range};
 ghost use Rattle.std.specs.Char.{IsScalar, digit_value};
-ghost use Rattle.replacer.specs.Escapes.{AreDigits, AreSigns, Escapes, Has, HasTwoDigits, IsBadEscape, IsSign, IsUnescaped};
+ghost use Rattle.replacer.specs.Escapes.{AreDigits, AreSigns, Escapes, Has, HasTwoDigits, IsBadEscape, IsSign};
 ghost use Rattle.replacer.specs.Escapes.{hex_number, hex_step, quoted_byte, sign_text};
 
+use crate::case::CaseEscape;
 use std::alloc::{AllocError, AllocFailed, Global};
 use thiserror::Error;
 
@@ -42,6 +44,8 @@ pub enum Sign {
     Byte(u8),
     /// An escape that stands for a character.
     Character(char),
+    /// An escape that stands for nothing, but says the case of what is after it; and the offset after it.
+    Case(CaseEscape, usize),
 }
 
 /// A sign, and the offset after it.
@@ -51,21 +55,8 @@ struct Piece {
     end: usize,
 }
 
-/// Returns the template without escapes: with what they stand for in their places, and with two dollars for an escaped
-/// one. Fails if an escape stands for nothing, or if allocation failed.
-pub fn unescaped(alloc: Global, text: &[u8]) -> Result<Vec<u8>, EscapeError>
-    ensures made { IfOk result (λ made. IsUnescaped text.now made.items) }
-    ensures mistake { IfErr result (IsBadEscape text.now) }
-{
-    let signs = signs_of(alloc, text)?;
-    let Ok(made) = text_of(alloc, &signs) else {
-        return Err(EscapeError::Memory);
-    };
-    Ok(made)
-}
-
-/// Returns the signs of the text, in order.
-fn signs_of(alloc: Global, text: &[u8]) -> Result<Vec<Sign>, EscapeError>
+/// Returns the signs of the text, in order. Fails if an escape stands for nothing, or if allocation failed.
+pub fn signs_of(alloc: Global, text: &[u8]) -> Result<Vec<Sign>, EscapeError>
     ensures signs { IfOk result (λ signs. AreSigns text.now signs.items (length text.now)) }
     ensures mistake { IfErr result (IsBadEscape text.now) }
 {
@@ -79,25 +70,15 @@ fn signs_of(alloc: Global, text: &[u8]) -> Result<Vec<Sign>, EscapeError>
     Ok(signs)
 }
 
-/// Returns the template that means these signs.
-fn text_of(alloc: Global, signs: &[Sign]) -> Result<Vec<u8>, AllocError>
-    ensures { IfOk result (λ text. text.items ≡ flat_map sign_text signs.now) }
-{
-    let mut text = Vec::new(alloc);
-    for sign in signs {
-        push_sign(&mut text, *sign)?;
-    }
-    Ok(text)
-}
-
-/// Appends the template that means a sign.
-fn push_sign(text: &mut Vec<u8>, sign: Sign) -> Result<(), AllocError>
+/// Appends the template that means a sign: two dollars for an escaped one, and nothing for an escape of the case.
+pub fn push_sign(text: &mut Vec<u8>, sign: Sign) -> Result<(), AllocError>
     ensures { OnOk result (text.new.items ≡ text.old.items ++ sign_text sign) }
 {
     match sign {
         Sign::AsItIs(byte) => text.extend_from_slice(&[byte]),
         Sign::Byte(byte) => push_quoted(text, byte),
         Sign::Character(c) => push_character(text, c),
+        Sign::Case(..) => Ok(()),
     }
 }
 
@@ -146,6 +127,11 @@ fn piece_at(text: &[u8], at: usize) -> Result<Piece, EscapeError>
         b'\\' => Ok(letter(b'\\', at)),
         b'x' => byte_of_digits(text, at),
         b'u' if at + 2 < text.len() && text[at + 2] == b'{' => character(text, at),
+        b'u' => Ok(case(CaseEscape::FirstUpper, at)),
+        b'l' => Ok(case(CaseEscape::FirstLower, at)),
+        b'U' => Ok(case(CaseEscape::Upper, at)),
+        b'L' => Ok(case(CaseEscape::Lower, at)),
+        b'E' => Ok(case(CaseEscape::End, at)),
         _ => Ok(as_it_is),
     }
 }
@@ -157,6 +143,17 @@ fn letter(byte: u8, at: usize) -> Piece
 {
     Piece {
         sign: Sign::Byte(byte),
+        end: at + 2,
+    }
+}
+
+/// Returns the escape of two bytes at this offset, which says a case.
+fn case(escape: CaseEscape, at: usize) -> Piece
+    requires { at + 2 < 2 ^ 64 }
+    ensures { result ≡ record { sign = Sign.Case escape (at + 2); end = at + 2 } }
+{
+    Piece {
+        sign: Sign::Case(escape, at + 2),
         end: at + 2,
     }
 }

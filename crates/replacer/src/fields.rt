@@ -18,14 +18,15 @@ use std::alloc::{AllocError, Global};
 /// Returns the fields of the haystack: what is before, between and after its matches. There is one field more than
 /// there are matches, and a field may be empty. The only error is that allocation failed.
 ///
-/// If the regex searches for a pattern, the matches are all hits of what the pattern means (`meant`).
+/// If the regex searches for patterns, the matches are all hits of what the patterns mean (`meant`).
 pub fn split<'h>(
     alloc: Global,
     regex: &mut Regex,
     haystack: &'h [u8],
 ) -> Result<Vec<&'h [u8]>, AllocError>
-    ensures meant { IfOk result (λ fields. (pattern : Sought) (re : Re) (hits : List PatternHit)
-        → SearchesFor pattern re regex.old.choice → AreAllHits re (is_utf8_empty regex.old.choice.nfa) haystack.now hits
+    ensures meant { IfOk result (λ fields. (sought : Sought) (res : List Re) (hits : List PatternHit)
+        → SearchesFor sought res regex.old.choice
+        → AreAllHits res (is_utf8_empty regex.old.choice.nfa) haystack.now hits
         → texts fields.items ≡ fields_by haystack.now hits) }
     ensures fields { IfOk result (λ fields. IsSplit haystack.now regex.old.choice (texts fields.items)) }
     ensures keeps { KeepsRegex regex.old regex.new }
@@ -48,8 +49,9 @@ pub fn splitn<'h>(
     haystack: &'h [u8],
     limit: usize,
 ) -> Result<Vec<&'h [u8]>, AllocError>
-    ensures meant { IfOk result (λ fields. (pattern : Sought) (re : Re) (hits : List PatternHit)
-        → SearchesFor pattern re regex.old.choice → AreAllHits re (is_utf8_empty regex.old.choice.nfa) haystack.now hits
+    ensures meant { IfOk result (λ fields. (sought : Sought) (res : List Re) (hits : List PatternHit)
+        → SearchesFor sought res regex.old.choice
+        → AreAllHits res (is_utf8_empty regex.old.choice.nfa) haystack.now hits
         → texts fields.items ≡ first_fields_by limit haystack.now hits) }
     ensures none { limit ≡ 0 → IfOk result (λ fields. fields.items ≡ []) }
     ensures fields { 0 < limit → IfOk result (λ fields.

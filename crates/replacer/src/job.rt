@@ -11,34 +11,63 @@ ghost use Rattle.replacer.specs.Printed.{IsFixedText, IsMisused, Prints, lines_s
 
 use crate::action::Action;
 use crate::command::Request;
+use crate::filling::BadStretch;
 use crate::line::Line;
 use crate::pattern::regex_of;
 use crate::shown::show;
-use nfa_compiler::{OnlyPattern, laws};
+use nfa_compiler::{CompileError, OnlyPattern, laws};
 use nfa_meta::Regex;
-use nfa_meta::interpolate::TemplateError;
-use std::alloc::Global;
+use std::alloc::{AllocFailed, Global};
+use std::fmt;
 use std::io::{BufRead, ErrorKind, Write};
 use std::marker::Model;
 use text_lines::failure::Failure;
 use text_lines::stream::{read_line, write_bytes};
-use thiserror::Error;
 
-/// Why a request cannot be done.
-#[derive(Debug, Drop, Error)]
-pub enum Mistake {
-    /// Allocation failed.
-    #[error("out of memory")]
-    Memory,
-    /// The pattern cannot be compiled.
-    #[error(transparent)]
-    Pattern(OnlyPattern),
-    /// The template cannot be read, or names a group that the pattern does not have.
-    #[error(transparent)]
-    Template(TemplateError),
+/// A template that cannot be read, or names a group that its pattern does not have.
+#[derive(Clone, Copy, Debug)]
+pub struct BadFilling {
+    /// The number of the pattern.
+    pub number: usize,
+    pub bad: BadStretch,
 }
 
-/// A request whose pattern is compiled, and whose template is read.
+/// Why a request cannot be done.
+#[derive(Debug, Drop)]
+pub enum Mistake {
+    /// Allocation failed.
+    Memory,
+    /// The only pattern cannot be compiled.
+    OnlyPattern(OnlyPattern),
+    /// One of several patterns cannot be compiled.
+    Pattern(CompileError),
+    /// The template of a pattern cannot be read.
+    Template(BadFilling),
+}
+
+impl fmt::Display for Mistake {
+    fn fmt<W: fmt::Write>(&self, f: &mut fmt::Formatter<W>) -> fmt::Result {
+        match self {
+            Mistake::Memory => f.write_str("out of memory"),
+            Mistake::OnlyPattern(error) => fmt::Display::fmt(error, f),
+            Mistake::Pattern(error) => fmt::Display::fmt(error, f),
+            Mistake::Template(filling) => fmt::Display::fmt(&filling.bad, f),
+        }
+    }
+}
+
+impl<T: Drop> From<AllocFailed<T>> for Mistake {
+    ghost use Rattle.std.specs.Prelude.{◌≡◌};
+    ghost use Rattle.replacer.specs.declared.job.Mistake.TheVariants as mistake;
+
+    ghost from_gives = { λ _ made. made ≡ mistake.Memory };
+
+    fn from(_: AllocFailed<T>) -> Mistake {
+        Mistake::Memory
+    }
+}
+
+/// A request whose patterns are compiled, and whose templates are read.
 ///
 /// A contract sees the request.
 #[derive(Drop)]
@@ -62,7 +91,7 @@ impl<'w> Model for Job<'w> {
 }
 
 impl<'w> Job<'w> {
-    /// Compiles the pattern, and reads the template if there is one.
+    /// Compiles the patterns, and reads the templates if there are some.
     pub fn new(alloc: Global, request: Request<'w>) -> Result<Job<'w>, Mistake>
         ensures request { IfOk result (λ job. job ≡ request.entry) }
         ensures fixed { IfOk result (λ _. IsFixedText request.entry) }
@@ -133,8 +162,8 @@ fn print_lines<R: BufRead, W: Write>(
     input: &mut R,
     out: &mut W,
 ) -> Result<(), Failure>
-    ensures printed { OnOk result ((pattern : Sought) (re : Re) (hits : List ℕ → List PatternHit)
-        → SearchesFor pattern re regex.old.choice → AreHitsOf re (is_utf8_empty regex.old.choice.nfa) hits
+    ensures printed { OnOk result ((sought : Sought) (res : List Re) (hits : List ℕ → List PatternHit)
+        → SearchesFor sought res regex.old.choice → AreHitsOf res (is_utf8_empty regex.old.choice.nfa) hits
         → IfSome (R.remaining input.old) (λ text. Appends (W.contents out.old) (W.contents out.new)
         (lines_shown regex.old.choice.nfa.groups hits action.now limit (lines_of text)))) }
     ensures keeps { KeepsRegex regex.old regex.new }

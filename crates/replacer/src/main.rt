@@ -1,7 +1,8 @@
-//! Reads texts, and replaces the matches of a pattern in them, or splits them there.
+//! Reads texts, and replaces the matches of patterns in them, or splits them there.
 #![tactic(auto)]
 
 mod action;
+mod case;
 mod changes;
 mod command;
 mod escapes;
@@ -9,20 +10,25 @@ mod fault;
 mod fields;
 mod files;
 mod filled;
+mod filling;
 mod hint;
 mod in_place;
 mod job;
 mod line;
+mod misuse;
+mod options;
 mod pattern;
 mod replace;
 mod shown;
+mod stretches;
 
-use crate::command::{Arguments, Asked, Command, HELP, Target, USAGE, VERSION, parse};
-use crate::escapes::unescaped;
+use crate::command::{Arguments, Asked, HELP, Target, USAGE, VERSION};
 use crate::files::{Done, Printing, print_files};
 use crate::hint::{HINT, has_foreign};
 use crate::in_place::replace_files;
-use crate::job::Job;
+use crate::job::{Job, Mistake};
+use crate::options::parse;
+use crate::stretches::all_stretches;
 use anyhow::Result;
 use option_values::output::{IS_OUTPUT, first_output, shown_name};
 use option_values::words::{arguments, words};
@@ -70,27 +76,46 @@ fn say<T: Display + Drop>(rt: &HostRuntime, text: T) -> Result<ExitCode> {
     }
 }
 
-/// Reads the escapes of the template, and compiles the pattern.
+/// Reads the escapes of the templates, and compiles the patterns.
 fn run(rt: &HostRuntime, arguments: &Arguments<'_>) -> Result<ExitCode> {
-    let template = match unescaped(rt.alloc(), arguments.request.command.template()) {
-        Ok(template) => template,
-        Err(error) => return Ok(failed(rt, error)),
+    let templates = match all_stretches(rt.alloc(), &arguments.templates) {
+        Ok(templates) => templates,
+        Err(bad) => return Ok(failed_for(rt, arguments, bad.number, bad.error)),
     };
-    match Job::new(rt.alloc(), arguments.request.with_template(&template)) {
+    let request = arguments
+        .task
+        .request(arguments.settings, &arguments.patterns, &templates);
+    match Job::new(rt.alloc(), request) {
         Ok(mut job) => obey(rt, arguments, &mut job),
+        Err(Mistake::Template(filling)) => {
+            Ok(failed_for(rt, arguments, filling.number, filling.bad))
+        }
         Err(mistake) => Ok(failed(rt, mistake)),
     }
 }
 
+/// Says what is wrong with the template of this number, and whose it is, if there are several patterns.
+fn failed_for<T: Display + Drop>(
+    rt: &HostRuntime,
+    arguments: &Arguments<'_>,
+    number: usize,
+    why: T,
+) -> ExitCode {
+    if arguments.patterns.len() == 1 {
+        return failed(rt, why);
+    }
+    failed(rt, format_args!("pattern {number}: {why}"))
+}
+
 /// Does the job for the inputs that the arguments name.
 fn obey(rt: &HostRuntime, arguments: &Arguments<'_>, job: &mut Job<'_>) -> Result<ExitCode> {
-    give_hint(rt, arguments.request.command);
+    give_hint(rt, &arguments.templates);
     let names = inputs_of(arguments);
-    match arguments.target {
-        Target::Files(suffix) if !arguments.preview => {
+    match arguments.settings.target {
+        Target::Files(suffix) if !arguments.settings.preview => {
             status_after(Ok(replace_files(rt, job, names, suffix)))
         }
-        _ => print_all(rt, job, names, arguments.preview),
+        _ => print_all(rt, job, names, arguments.settings.preview),
     }
 }
 
@@ -118,10 +143,11 @@ fn print_all(
 }
 
 /// Says what a template may mean otherwise than its author thinks. If that cannot be written, nothing else changes.
-fn give_hint(rt: &HostRuntime, command: Command<'_>) {
-    if let Command::Replace(template) = command {
+fn give_hint(rt: &HostRuntime, templates: &[&[u8]]) {
+    for template in templates {
         if has_foreign(template) {
             let _ = eprintln!(rt; "replacer: {HINT}");
+            return;
         }
     }
 }

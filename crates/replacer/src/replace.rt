@@ -18,15 +18,16 @@ use std::alloc::{AllocError, Global};
 /// Returns the captures of the first matches of the haystack, as many as the limit says, or of all if there is none.
 /// The only error is that allocation failed.
 ///
-/// If the regex searches for one pattern, they are those of the first hits of what the pattern means (`meant`).
+/// If the regex searches for patterns, they are those of the first hits of what the patterns mean (`meant`).
 pub fn captures_in(
     alloc: Global,
     regex: &mut Regex,
     haystack: &[u8],
     limit: Option<usize>,
 ) -> Result<Vec<Captures>, AllocError>
-    ensures meant { IfOk result (λ caught. (pattern : Sought) (re : Re) (hits : List PatternHit)
-        → SearchesFor pattern re regex.old.choice → AreAllHits re (is_utf8_empty regex.old.choice.nfa) haystack.now hits
+    ensures meant { IfOk result (λ caught. (sought : Sought) (res : List Re) (hits : List PatternHit)
+        → SearchesFor sought res regex.old.choice
+        → AreAllHits res (is_utf8_empty regex.old.choice.nfa) haystack.now hits
         → caught.items ≡ map (captured_by regex.old.choice.nfa.groups) (limited limit hits)) }
     ensures first { IfOk result (λ caught. AreFirstOf regex.old.choice haystack.now limit caught.items) }
     ensures inside { IfOk result (λ caught. All (CapturesInside (whole haystack.now)) caught.items) }

@@ -4,16 +4,17 @@ ghost use Rattle.regex_hir.specs.Re.{Re};
 ghost use Rattle.nfa_engines.specs.Paths.{is_utf8_empty};
 ghost use Rattle.nfa_compiler.specs.Patterns.{PatternHit};
 ghost use Rattle.nfa_meta.specs.RegexState.{KeepsRegex};
+ghost use Rattle.replacer.specs.Fillings.{pieces_in};
 ghost use Rattle.replacer.specs.Hits.{AreAllHits, SearchesFor, Sought};
 ghost use Rattle.replacer.specs.Printed.{field_lines, left_after, left_by, limited, replaced_by, shown};
 ghost use Rattle.replacer.specs.Separated.{fields_by, first_fields_by, texts};
 
 use crate::action::Action;
 use crate::fields::{split, splitn};
+use crate::filling::{Filling, fill_all};
 use crate::line::Line;
 use crate::replace::captures_in;
 use nfa_meta::Regex;
-use nfa_meta::interpolate::Template;
 use std::alloc::{AllocError, Global};
 
 /// What is printed of a line, and how many more matches may be replaced after it, if there is a limit.
@@ -26,7 +27,7 @@ pub struct Shown {
 /// Returns what is printed of a line. At most `left` of its matches are replaced. The only error is that allocation
 /// failed.
 ///
-/// If the regex searches for one pattern, the text is that of the hits of what the pattern means.
+/// If the regex searches for patterns, the text is that of the hits of what the patterns mean.
 pub fn show(
     alloc: Global,
     regex: &mut Regex,
@@ -34,20 +35,20 @@ pub fn show(
     left: Option<usize>,
     line: Line<'_>,
 ) -> Result<Shown, AllocError>
-    ensures text { IfOk result (λ made. (pattern : Sought) (re : Re) (hits : List PatternHit)
-        → SearchesFor pattern re regex.old.choice
-        → AreAllHits re (is_utf8_empty regex.old.choice.nfa) line.entry.text.now hits
+    ensures text { IfOk result (λ made. (sought : Sought) (res : List Re) (hits : List PatternHit)
+        → SearchesFor sought res regex.old.choice
+        → AreAllHits res (is_utf8_empty regex.old.choice.nfa) line.entry.text.now hits
         → made.text.items ≡ shown regex.old.choice.nfa.groups action.now left line.entry.text.now
         line.entry.end.now hits) }
-    ensures left { IfOk result (λ made. (pattern : Sought) (re : Re) (hits : List PatternHit)
-        → SearchesFor pattern re regex.old.choice
-        → AreAllHits re (is_utf8_empty regex.old.choice.nfa) line.entry.text.now hits
+    ensures left { IfOk result (λ made. (sought : Sought) (res : List Re) (hits : List PatternHit)
+        → SearchesFor sought res regex.old.choice
+        → AreAllHits res (is_utf8_empty regex.old.choice.nfa) line.entry.text.now hits
         → made.left ≡ left_by action.now left hits) }
     ensures keeps { KeepsRegex regex.old regex.new }
 {
     match action {
-        Action::Replace(template) => {
-            let made = show_replaced(alloc, regex, template, left, line)?;
+        Action::Replace(fillings) => {
+            let made = show_replaced(alloc, regex, fillings, left, line)?;
             Ok(made)
         }
         Action::Split => {
@@ -61,22 +62,22 @@ pub fn show(
     }
 }
 
-/// Returns the line with the template in place of its first hits.
+/// Returns the line with what the fillings give in place of its first hits.
 fn show_replaced(
     alloc: Global,
     regex: &mut Regex,
-    template: &Template<'_>,
+    fillings: &[Filling<'_>],
     left: Option<usize>,
     line: Line<'_>,
 ) -> Result<Shown, AllocError>
-    ensures text { IfOk result (λ made. (pattern : Sought) (re : Re) (hits : List PatternHit)
-        → SearchesFor pattern re regex.old.choice
-        → AreAllHits re (is_utf8_empty regex.old.choice.nfa) line.entry.text.now hits
-        → made.text.items ≡ replaced_by regex.old.choice.nfa.groups template.now.parts.items line.entry.text.now
+    ensures text { IfOk result (λ made. (sought : Sought) (res : List Re) (hits : List PatternHit)
+        → SearchesFor sought res regex.old.choice
+        → AreAllHits res (is_utf8_empty regex.old.choice.nfa) line.entry.text.now hits
+        → made.text.items ≡ replaced_by regex.old.choice.nfa.groups (pieces_in fillings.now) line.entry.text.now
         (limited left hits) ++ line.entry.end.now) }
-    ensures left { IfOk result (λ made. (pattern : Sought) (re : Re) (hits : List PatternHit)
-        → SearchesFor pattern re regex.old.choice
-        → AreAllHits re (is_utf8_empty regex.old.choice.nfa) line.entry.text.now hits
+    ensures left { IfOk result (λ made. (sought : Sought) (res : List Re) (hits : List PatternHit)
+        → SearchesFor sought res regex.old.choice
+        → AreAllHits res (is_utf8_empty regex.old.choice.nfa) line.entry.text.now hits
         → made.left ≡ left_after left (length hits)) }
     ensures keeps { KeepsRegex regex.old regex.new }
 {
@@ -85,7 +86,7 @@ fn show_replaced(
     }
     let caught = captures_in(alloc, regex, line.text, left)?;
     let left = left_after(left, caught.len());
-    let mut text = template.fill_all(alloc, line.text, caught)?;
+    let mut text = fill_all(alloc, line.text, fillings, caught)?;
     text.extend_from_slice(line.end)?;
     Ok(Shown { text, left })
 }
@@ -116,8 +117,8 @@ fn left_after(limit: Option<usize>, count: usize) -> Option<usize>
 
 /// Returns a line for each field of the text.
 fn show_fields(alloc: Global, regex: &mut Regex, text: &[u8]) -> Result<Vec<u8>, AllocError>
-    ensures meant { IfOk result (λ lines. (pattern : Sought) (re : Re) (hits : List PatternHit)
-        → SearchesFor pattern re regex.old.choice → AreAllHits re (is_utf8_empty regex.old.choice.nfa) text.now hits
+    ensures meant { IfOk result (λ lines. (sought : Sought) (res : List Re) (hits : List PatternHit)
+        → SearchesFor sought res regex.old.choice → AreAllHits res (is_utf8_empty regex.old.choice.nfa) text.now hits
         → lines.items ≡ field_lines (fields_by text.now hits)) }
     ensures keeps { KeepsRegex regex.old regex.new }
 {
@@ -133,8 +134,8 @@ fn show_first_fields(
     text: &[u8],
     limit: usize,
 ) -> Result<Vec<u8>, AllocError>
-    ensures meant { IfOk result (λ lines. (pattern : Sought) (re : Re) (hits : List PatternHit)
-        → SearchesFor pattern re regex.old.choice → AreAllHits re (is_utf8_empty regex.old.choice.nfa) text.now hits
+    ensures meant { IfOk result (λ lines. (sought : Sought) (res : List Re) (hits : List PatternHit)
+        → SearchesFor sought res regex.old.choice → AreAllHits res (is_utf8_empty regex.old.choice.nfa) text.now hits
         → lines.items ≡ field_lines (first_fields_by limit text.now hits)) }
     ensures keeps { KeepsRegex regex.old regex.new }
 {

@@ -9,8 +9,8 @@ use Rattle.replacer.proofs.job.print_lines.Given as goal
 
 abbrev pub invariant-loop-before : goal.invariant-loop-before
 invariant-loop-before g l = record {
-  printed : (pattern : Sought) (re : Re) (hits : List ℕ → List PatternHit) → SearchesFor pattern re l.fn.regex.choice
-      → AreHitsOf re (is_utf8_empty l.fn.regex.choice.nfa) hits
+  printed : (sought : Sought) (res : List Re) (hits : List ℕ → List PatternHit)
+      → SearchesFor sought res l.fn.regex.choice → AreHitsOf res (is_utf8_empty l.fn.regex.choice.nfa) hits
       → HasWritten l.fn.regex.choice.nfa.groups hits l.action l.fn.limit (g.R.Read.remaining l.fn.input)
       (g.R.Read.remaining l.input) (g.W.Write.contents l.fn.out) (g.W.Write.contents l.out) l.left;
   keeps : KeepsRegex l.fn.regex l.regex;

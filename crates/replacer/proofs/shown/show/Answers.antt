@@ -2,7 +2,8 @@
 use Rattle.replacer.proofs.shown.show.Goals as goal
 
 pub returns-in_ok-made-in-Replace-clause-text : goal.returns-in_ok-made-in-Replace-clause-text
-returns-in_ok-made-in-Replace-clause-text c = rw c.in-Replace.is c.in_ok-made-in-Replace.ensures.text
+returns-in_ok-made-in-Replace-clause-text c =
+    rw (c.in-Replace.is, ← c.deref.ensures.value) c.in_ok-made-in-Replace.ensures.text
 
 pub returns-in_ok-made-in-Replace-clause-left : goal.returns-in_ok-made-in-Replace-clause-left
 returns-in_ok-made-in-Replace-clause-left c = rw c.in-Replace.is c.in_ok-made-in-Replace.ensures.left

@@ -2,7 +2,7 @@
 use Rattle.std.proofs.Common.{rules, ◌≡◌, ◌∙◌, ◌++◌, ℕ, List, ap, length}
 use Rattle.regex_search_core.specs.Slots.{Captured}
 use Rattle.replacer.specs.Hits.{captured_by}
-use Rattle.nfa_meta.specs.Filled.{filled_from}
+use Rattle.replacer.specs.Fillings.{pieces_in, put_from}
 use Rattle.replacer.proofs.PrintedLemmas.{left-caught}
 use Rattle.replacer.proofs.shown.show_replaced.Goals as goal
 
@@ -11,7 +11,7 @@ returns-clause-text c = λ pattern re hits of all.
     c.in_ok-extend_from_slice.ensures.items
     ∙ ap (λ (l : List ℕ). l ++ c.args.line.end.now)
     (c.in_ok-text.ensures
-    ∙ ap (λ (cs : List Captured). filled_from c.args.line.text.now c.args.template.now.parts.items 0 cs)
+    ∙ ap (λ (cs : List Captured). put_from c.args.line.text.now (pieces_in c.args.fillings.now) 0 cs)
     (c.in_ok-caught.ensures.meant pattern re hits of all))
 
 pub returns-clause-left : goal.returns-clause-left
