@@ -36,8 +36,8 @@ Options:
 -h, --help         prints this, and nothing else.
 --version          prints the name and the version of the program.
 
-Status: 0 if the tokens of rules are the whole text, 1 if no token starts at some place, which standard error names, 2 if
-the arguments or the rules are wrong, the text cannot be read, a token cannot be written or there is no memory. If
+Status: 0 if the tokens of rules are the whole text, 1 if no token starts at some place, which standard error names, and
+2 if the arguments or the rules are wrong, the text cannot be read, a token cannot be written or there is no memory. If
 nobody reads the output any more, the program ends silently with status 141.
 
 Examples:

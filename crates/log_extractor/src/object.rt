@@ -57,8 +57,8 @@ fn append_more_members(
     fields: &[Option<&[u8]>],
     out: &mut Vec<u8>,
 ) -> Result<(), AllocError>
-    ensures { OnOk result (out.new.items
-        ≡ out.old.items ++ flat_map (λ m. 44 ∷ m) (members values (map string_bytes names.now) (fields_now fields.now))) }
+    ensures { OnOk result (out.new.items ≡ out.old.items
+        ++ flat_map (λ m. 44 ∷ m) (members values (map string_bytes names.now) (fields_now fields.now))) }
 {
     for (name, field) in names.iter().zip(fields) {
         out.push(b',')?;

@@ -37,7 +37,8 @@ pub fn print_head<W: Write>(
     out: &mut W,
 ) -> Result<(), Failure>
     ensures { OnOk result ((ps : List LabelledPattern) → AreLinePatterns rows.now.parsers ps
-        → Appends (W.contents out.old) (W.contents out.new) (table_head output (selected_names rows.now.selection ps))) }
+        → Appends (W.contents out.old) (W.contents out.new)
+        (table_head output (selected_names rows.now.selection ps))) }
 {
     let mut names = Vec::new(alloc);
     append_head(output, rows.names(), &mut names)?;

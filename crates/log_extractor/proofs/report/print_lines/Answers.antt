@@ -32,7 +32,11 @@ loop-before-preserved g c =
           let here : c.in-Ok.row ≡ is_some (row_in c.args.rows.now.selection ps (content line)) =
           rw (c.deref.ensures.value, inv.kept) at (c.in-Ok.ensures.row ps (rw inv.kept is)) in
           taken-more _ _ _ _ _ line (c.in_ok-read_line.ensures.taken (search rules)) (λ lines so-far.
-          rw (here, list_any-append (λ l. is_some (row_in c.args.rows.now.selection ps (content l))) lines (line ∷ []), or-false)
+          rw (
+            here,
+            list_any-append (λ l. is_some (row_in c.args.rows.now.selection ps (content l))) lines (line ∷ []),
+            or-false,
+          )
           (ap (λ found. found || is_some (row_in c.args.rows.now.selection ps (content line))) so-far))
           (inv.looked ps is);
       kept = search rules;

@@ -9,8 +9,10 @@ abbrev pub invariant-loop-before : goal.invariant-loop-before
 invariant-loop-before g l = record {
   printed : (ps : List LabelledPattern) → AreLinePatterns l.fn.rows.parsers ps
       → Taken (λ lines. Appends (g.W.Write.contents l.fn.out) (g.W.Write.contents l.out)
-      (flat_map (shown_line l.output l.fn.rows.selection ps) lines)) (g.R.Read.remaining l.fn.input) (g.R.Read.remaining l.input);
+      (flat_map (shown_line l.output l.fn.rows.selection ps) lines)) (g.R.Read.remaining l.fn.input)
+      (g.R.Read.remaining l.input);
   looked : (ps : List LabelledPattern) → AreLinePatterns l.fn.rows.parsers ps
-      → Taken (λ lines. l.found ≡ has_row l.fn.rows.selection ps lines) (g.R.Read.remaining l.fn.input) (g.R.Read.remaining l.input);
+      → Taken (λ lines. l.found ≡ has_row l.fn.rows.selection ps lines) (g.R.Read.remaining l.fn.input)
+      (g.R.Read.remaining l.input);
   kept : l.rows ≡ l.fn.rows;
 }
