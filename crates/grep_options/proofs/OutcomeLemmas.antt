@@ -92,7 +92,8 @@ shorter ps qs p same c (d ∷ ds) none =
 pub short_after_first : (ps qs : List Part) (p : ℕ → Bool)
     → ((text : List ℕ) → parts_match ps text ≡ takes_first p (parts_match qs) text)
     → (text : List ℕ) → 1 ≤ length text
-    → some_rest (parts_match qs) (take (length text - 1) (drop 1 text)) ≡ false → some_rest (parts_match ps) text ≡ false
+    → some_rest (parts_match qs) (take (length text - 1) (drop 1 text)) ≡ false
+    → some_rest (parts_match ps) text ≡ false
 short_after_first ps qs p same [] long none = absurd (omega arith)
 short_after_first ps qs p same (c ∷ cs) long none =
     shorter ps qs p same c cs (ap (some_rest (parts_match qs)) (sym (rest_is c cs)) ∙ none)

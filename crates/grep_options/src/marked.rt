@@ -1,5 +1,5 @@
-//! Texts of arguments and of names that may not be UTF-8. `std` opens files by their names as text, so a file whose name
-//! is not UTF-8 cannot be opened; but it can be named.
+//! Texts of arguments and of names that may not be UTF-8. `std` opens files by their names as text. So a file whose
+//! name is not UTF-8 cannot be opened, but it can be named.
 use std::alloc::{AllocError, Global};
 use std::str;
 

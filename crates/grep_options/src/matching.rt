@@ -5,14 +5,14 @@ ghost use Rattle.grep_options.specs.Globs.{some_tail, takes};
 
 use crate::glob::{Letter, Token};
 
-/// What comes of parts of a glob and a text.
+/// Whether parts of a glob match a text, and if not, whether they may match a part of it.
 #[derive(Clone, Copy)]
 pub enum Outcome {
     /// The parts match the whole text.
     Match,
-    /// They do not.
+    /// They do not, but may match the rest of the text after its first characters.
     Other,
-    /// They do not, and they match nothing that is left of the text after some characters. It is too short for them.
+    /// They match neither the text nor any rest of it: it is too short for them.
     Short,
 }
 
@@ -26,9 +26,9 @@ pub fn parts_match(tokens: &[Token<'_>], text: &[char]) -> bool
     }
 }
 
-/// Returns what comes of these parts and the text. The parts after a star are tried at one character after another, until
-/// they match or the text is too short for them. It is then too short for the parts before the star, too, so these are
-/// tried nowhere else.
+/// Matches the parts with the whole text. It tries the parts after a star at one character after another, until they
+/// match or the text is too short for them. The text is then too short for the parts before the star, too, so they are
+/// tried at no other character.
 #[cycle(parts)]
 fn outcome_of(tokens: &[Token<'_>], text: &[char]) -> Outcome
     ensures matched { is_match result ≡ parts_match (map part_of tokens.now) text.now }
@@ -67,7 +67,7 @@ fn is_star(token: Token<'_>) -> bool
     }
 }
 
-/// Returns what comes of these parts and the text, or what is left of it after some characters.
+/// Matches the parts with the text, or with the rest of it after some characters.
 #[cycle(parts)]
 fn outcome_of_rests(tokens: &[Token<'_>], text: &[char]) -> Outcome
     ensures { is_match result ≡ some_rest (parts_match (map part_of tokens.now)) text.now }

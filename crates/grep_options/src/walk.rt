@@ -74,8 +74,8 @@ fn folder_id(rt: &HostRuntime, path: &str) -> Option<FileId> {
     }
 }
 
-/// Pushes the paths in the folder, so that they are popped in the order of names. One that is not UTF-8 is marked. Those
-/// that can be read are pushed also if another one cannot, which is the error.
+/// Pushes the paths in the folder, so that they are popped in the order of names. One that is not UTF-8 is marked.
+/// Those that can be read are pushed also if another one cannot, which is the error.
 pub fn push_paths(rt: &HostRuntime, folder: &str, stack: &mut Vec<String>) -> io::Result<()> {
     let mut names = Vec::new(rt.alloc());
     let done = read_names(rt, folder, &mut names);

@@ -37,8 +37,8 @@ abbrev pub casing_after : Casing → List ℕ → Casing
 casing_after casing [] = casing
 casing_after casing (byte ∷ bytes) = casing_after (after_byte casing) bytes
 
--- The casing after an escape: `\u` and `\l` are for the next byte, in place of the other ones. These are for all bytes up
--- to the next one of them.
+-- The casing after an escape. `\U`, `\L` and `\E` hold for all bytes up to the next one of these three. `\u` and `\l`
+-- hold for the next byte, whatever the others say of it.
 abbrev pub after_escape : Casing → CaseEscape → Casing
 after_escape casing escape.End = record casing { rest = case.Kept }
 after_escape casing escape.Upper = record casing { rest = case.Upper }

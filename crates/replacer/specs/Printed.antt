@@ -149,16 +149,16 @@ IsTemplateMistake groups (Replace templates) (Template filling) =
 IsTemplateMistake groups command Memory = ⊤
 IsTemplateMistake groups _ _ = ⊥
 
--- the error of one of so many patterns
+-- the error of a pattern: `OnlyPattern` if it is the only one
 abbrev pub pattern_mistake : ℕ → CompileError → Mistake
 pattern_mistake count error = if count == 1 then OnlyPattern (record { 0 = error }) else Pattern error
 
--- this is wrong with one of the patterns: a text is none, or one exceeds the default size limit
+-- this is wrong with one of the patterns: it cannot be read, or it exceeds the default size limit
 abbrev pub IsPatternError : Sought → CompileError → Type 0
 IsPatternError sought error =
     IsOfOneText (syntax_of sought) sought.texts error × NamesText (syntax_of sought) 10485760 sought.texts error
 
--- allocation failed, or this is wrong with the patterns, of which there is one, or not
+-- allocation failed, or this is wrong with a pattern: with the only one, or with one of several
 abbrev pub IsPatternMistake : Sought → Mistake → Type 0
 IsPatternMistake sought Memory = ⊤
 IsPatternMistake sought (OnlyPattern error) = (length sought.texts ≡ 1) × IsPatternError sought error.0

@@ -75,7 +75,7 @@ fn compile(alloc: Global, texts: &[String], ignore_case: bool) -> Result<Regex, 
     }
 }
 
-/// Returns what is wrong if this is wrong with one of so many patterns.
+/// Returns the mistake for this error of a pattern. `count` is the number of patterns.
 fn mistake_of(count: usize, error: CompileError) -> Mistake
     ensures { result ≡ pattern_mistake count error }
 {

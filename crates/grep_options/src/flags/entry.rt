@@ -23,7 +23,7 @@ pub enum Also {
     Name(&'static str),
     /// By another letter.
     Letter(char),
-    /// The name is none that is written, only the letter is.
+    /// By its letter only.
     NoName,
 }
 
@@ -41,7 +41,7 @@ pub enum Takes {
     OneOf(&'static str, &'static [&'static str]),
     /// The same after an equals sign, or nothing, which is this value.
     Optional(&'static str, &'static [&'static str], &'static str),
-    /// No option: these are the arguments that belong to none.
+    /// The arguments that belong to no option.
     Words(&'static str),
 }
 

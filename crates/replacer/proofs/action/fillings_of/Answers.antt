@@ -39,7 +39,8 @@ loop-number-preserved c =
       count = ap length pushed ∙ length_push (pieces_in fs) ps ∙ ap (λ (n : ℕ). n + 1) c.loop-number.invariant.count;
       each = λ k h. subst (λ (all : List (List Piece)). AllZip (IsPiece groups k) (get_or ts k []) (get_or all k []))
           (sym pushed)
-          (fillings_more groups ts (pieces_in fs) at ps c.loop-number.invariant.count c.loop-number.invariant.each one k h);
+          (fillings_more groups ts (pieces_in fs) at ps c.loop-number.invariant.count c.loop-number.invariant.each one
+          k h);
     }
 
 pub returns-in-Err-clause-mistake : goal.returns-in-Err-clause-mistake
