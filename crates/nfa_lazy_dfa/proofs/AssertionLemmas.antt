@@ -2,8 +2,8 @@
 -- between bytes below 128.
 use Rattle.thompson_nfa.specs.declared.look.Look as looks
 use Rattle.thompson_nfa.proofs.BetweenLemmas.{ascii_look, look_holds-ascii, before-some, holds_between, holds-between}
-use Rattle.nfa_paths.proofs.Common.{◌≡◌, ◌∙◌, ℕ, ◌==◌, ◌||◌, ◌≤◌, ◌<◌, ◌⊎◌, inl, inr, true, ◌++◌, false, List, length, refl, sym, ap, subst, arith, lit<, Option, None, Some, option_to_list, slice_get, cases_Bool, eqb_tells, slice_get-get_or, Automaton, Node, look_holds, node_at, Look, is_word_byte, Start, End, StartLF, EndLF, StartCRLF, EndCRLF, WordAscii, WordAsciiNegate, WordUnicode, WordUnicodeNegate, WordStartAscii, WordEndAscii, WordStartUnicode, WordEndUnicode, WordStartHalfAscii, WordEndHalfAscii, WordStartHalfUnicode, WordEndHalfUnicode, Holding, holding_at, byte_before}
-use Rattle.nfa_lazy_dfa.specs.Assertions.{HasNoLook, IsRead, HasNoUnicodeWord, SameLooks, is_look, like, may_follow, reads_bytes, sees}
+use Rattle.nfa_paths.proofs.Common.{◌≡◌, ◌∙◌, ℕ, ◌==◌, ◌||◌, ◌≤◌, ◌<◌, ◌⊎◌, inl, inr, Bool, true, ◌++◌, false, List, length, slice_index_or, refl, sym, ap, subst, arith, lit<, Option, None, Some, option_to_list, slice_get, cases_Bool, eqb_tells, slice_get-get_or, Automaton, Node, look_holds, node_at, Look, is_word_byte, Start, End, StartLF, EndLF, StartLine, EndLine, StartCRLF, EndCRLF, WordAscii, WordAsciiNegate, WordUnicode, WordUnicodeNegate, WordStartAscii, WordEndAscii, WordStartUnicode, WordEndUnicode, WordStartHalfAscii, WordEndHalfAscii, WordStartHalfUnicode, WordEndHalfUnicode, Holding, holding_at, byte_before}
+use Rattle.nfa_lazy_dfa.specs.Assertions.{AreTerminators, HasNoLook, HasNoUnicodeWord, IsMarked, IsMarkedBy, IsRead, SameLooks, is_look, like, may_follow, plain_like, reads_bytes, sees}
 
 -- between two bytes there are these two
 
@@ -70,9 +70,10 @@ sees-at h at within look known =
 
 -- a byte like another one reads alike
 
-like-tells : (b : ℕ)
-    → ((like b == 10) ≡ (b == 10)) × ((like b == 13) ≡ (b == 13)) × (is_word_byte (like b) ≡ is_word_byte b)
-like-tells b =
+plain-tells : (b : ℕ)
+    → ((plain_like b == 10) ≡ (b == 10)) × ((plain_like b == 13) ≡ (b == 13))
+    × (is_word_byte (plain_like b) ≡ is_word_byte b)
+plain-tells b =
     elim (eqb_tells b 10) [
       | inl e ↦ rw e.1 (refl, refl, refl)
       | inr e ↦
@@ -86,27 +87,6 @@ like-tells b =
           ]
     ]
 
-like-between : (b : ℕ) (after : Option ℕ) (look : looks.Look)
-    → holds_between look (Some (like b)) after ≡ holds_between look (Some b) after
-like-between b after Start = refl
-like-between b after End = refl
-like-between b after StartLF = (like-tells b).0
-like-between b after EndLF = refl
-like-between b after StartCRLF = rw ((like-tells b).0, (like-tells b).1) refl
-like-between b after EndCRLF = rw (like-tells b).1 refl
-like-between b after WordAscii = rw (like-tells b).2 refl
-like-between b after WordAsciiNegate = rw (like-tells b).2 refl
-like-between b after WordUnicode = rw (like-tells b).2 refl
-like-between b after WordUnicodeNegate = rw (like-tells b).2 refl
-like-between b after WordStartAscii = rw (like-tells b).2 refl
-like-between b after WordEndAscii = rw (like-tells b).2 refl
-like-between b after WordStartUnicode = rw (like-tells b).2 refl
-like-between b after WordEndUnicode = rw (like-tells b).2 refl
-like-between b after WordStartHalfAscii = rw (like-tells b).2 refl
-like-between b after WordEndHalfAscii = refl
-like-between b after WordStartHalfUnicode = rw (like-tells b).2 refl
-like-between b after WordEndHalfUnicode = refl
-
 -- a byte that is one of two is below 128
 small : (b : ℕ) → (b == 10 || b == 13) ≡ true → b < 128
 small b e =
@@ -119,9 +99,8 @@ small b e =
           ]
     ]
 
--- a byte like another one is below 128
-like-small : (b : ℕ) → like b < 128
-like-small b =
+plain-small : (b : ℕ) → plain_like b < 128
+plain-small b =
     elim (cases_Bool (is_word_byte b)) [
       | inl w ↦ rw w (lit< tt)
       | inr w ↦
@@ -130,6 +109,83 @@ like-small b =
             | inr e ↦ rw (w, e) (lit< tt)
           ]
     ]
+
+module _ (marks : List Bool) (b : ℕ) where
+  -- it is the byte itself, or one of four, and neither is a line terminator
+  abbrev IsPlain : Type 0
+  IsPlain =
+      (like marks b ≡ plain_like b)
+      × (slice_index_or marks b false ≡ false)
+      × (slice_index_or marks (plain_like b) false ≡ false)
+
+  like-cases : (like marks b ≡ b) ⊎ IsPlain
+  like-cases =
+      elim (cases_Bool (slice_index_or marks b false)) [
+        | inl own ↦ inl (rw own refl)
+        | inr none ↦
+            elim (cases_Bool (slice_index_or marks (plain_like b) false)) [
+              | inl taken ↦ inl (rw (none, taken) refl)
+              | inr free ↦ inr (rw (none, free) refl, none, free)
+            ]
+      ]
+
+  -- a byte that is no line terminator is none that is marked
+  differs : (x : ℕ) → slice_index_or marks x false ≡ false → (t : ℕ) → slice_index_or marks t false ≡ true
+      → (x == t) ≡ false
+  differs x none t marked =
+      elim (eqb_tells x t) [
+        | inl e ↦ absurd (cc (none, marked, e.1))
+        | inr e ↦ e.0
+      ]
+
+  -- a test that reads no line terminator
+  like-tells : (test : ℕ → Bool) → test (plain_like b) ≡ test b → test (like marks b) ≡ test b
+  like-tells test plain =
+      elim like-cases [
+        | inl same ↦ ap test same
+        | inr other ↦ ap test other.0 ∙ plain
+      ]
+
+  -- and one that reads a marked one
+  like-marked : (t : ℕ) → slice_index_or marks t false ≡ true → (like marks b == t) ≡ (b == t)
+  like-marked t marked =
+      elim like-cases [
+        | inl same ↦ ap (λ x. x == t) same
+        | inr other ↦
+            ap (λ x. x == t) other.0 ∙ differs (plain_like b) other.2 t marked ∙ sym (differs b other.1 t marked)
+      ]
+
+  like-feed : (like marks b == 10) ≡ (b == 10)
+  like-feed = like-tells (λ x. x == 10) (plain-tells b).0
+
+  like-return : (like marks b == 13) ≡ (b == 13)
+  like-return = like-tells (λ x. x == 13) (plain-tells b).1
+
+  like-word : is_word_byte (like marks b) ≡ is_word_byte b
+  like-word = like-tells is_word_byte (plain-tells b).2
+
+  like-between : (after : Option ℕ) (look : looks.Look) → IsMarked marks look
+      → holds_between look (Some (like marks b)) after ≡ holds_between look (Some b) after
+  like-between after Start marked = refl
+  like-between after End marked = refl
+  like-between after StartLF marked = like-feed
+  like-between after EndLF marked = refl
+  like-between after (StartLine t) marked = like-marked t marked
+  like-between after (EndLine t) marked = refl
+  like-between after StartCRLF marked = rw (like-feed, like-return) refl
+  like-between after EndCRLF marked = rw like-return refl
+  like-between after WordAscii marked = rw like-word refl
+  like-between after WordAsciiNegate marked = rw like-word refl
+  like-between after WordUnicode marked = rw like-word refl
+  like-between after WordUnicodeNegate marked = rw like-word refl
+  like-between after WordStartAscii marked = rw like-word refl
+  like-between after WordEndAscii marked = rw like-word refl
+  like-between after WordStartUnicode marked = rw like-word refl
+  like-between after WordEndUnicode marked = rw like-word refl
+  like-between after WordStartHalfAscii marked = rw like-word refl
+  like-between after WordEndHalfAscii marked = refl
+  like-between after WordStartHalfUnicode marked = rw like-word refl
+  like-between after WordEndHalfUnicode marked = refl
 
 module _ (nfa : Automaton) where
   pub same-none : HasNoLook nfa → (a b : Holding) → SameLooks nfa a b
@@ -166,15 +222,22 @@ module _ (nfa : Automaton) where
       ]
 
   -- a byte like this one may be read
-  read-like : (b : ℕ) → IsRead nfa (Some (like b))
-  read-like b = inr (like-small b)
+  read-like : (marks : List Bool) (b : ℕ) → IsRead nfa (Some b) → IsRead nfa (Some (like marks b))
+  read-like marks b read =
+      elim (like-cases marks b) [
+        | inl same ↦ subst (λ (x : ℕ). IsRead nfa (Some x)) (sym same) read
+        | inr other ↦ inr (subst (λ (x : ℕ). x < 128) (sym other.0) (plain-small b))
+      ]
 
-  pub same-like : (b : ℕ) (after : Option ℕ) → IsRead nfa (Some b) → IsRead nfa after
-      → SameLooks nfa (sees (Some (like b)) after) (sees (Some b) after)
-  same-like b after read next_read = record {
+  pub same-like : (marks : List Bool) → AreTerminators nfa marks → (b : ℕ) (after : Option ℕ)
+      → IsRead nfa (Some b) → IsRead nfa after
+      → SameLooks nfa (sees (Some (like marks b)) after) (sees (Some b) after)
+  same-like marks are b after read next_read = record {
     same = λ s look next e.
-        sees-between (Some (like b)) after look (known-look (Some (like b)) after (read-like b) next_read s look next e)
-        ∙ like-between b after look
+        let read_like = read-like marks b read in
+        let known = known-look (Some (like marks b)) after read_like next_read s look next e in
+        sees-between (Some (like marks b)) after look known
+        ∙ like-between marks b after look (subst (IsMarkedBy marks) e (are.marked s))
         ∙ sym (sees-between (Some b) after look (known-look (Some b) after read next_read s look next e));
   }
 

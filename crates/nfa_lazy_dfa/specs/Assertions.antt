@@ -1,6 +1,6 @@
 -- Assertions that read no more than the byte on each side of a position, and the bytes that a lazy DFA may read.
-use Rattle.std.specs.Prelude.{◌≡◌, ℕ, ◌<◌, ◌≤◌, ◌⊎◌, Bool, true, false, ◌||◌, ◌==◌, ◌++◌, length, Option, None, Some, ⊤, option_to_list, if◌then◌else◌}
-use Rattle.nfa_paths.specs.Common.{Automaton, Node, node_at, Look, is_word_byte, WordUnicode, WordUnicodeNegate, WordStartUnicode, WordEndUnicode, WordStartHalfUnicode, WordEndHalfUnicode, Holding, holding_at}
+use Rattle.std.specs.Prelude.{◌≡◌, ℕ, ◌<◌, ◌≤◌, ◌⊎◌, Bool, true, false, ◌||◌, ◌==◌, ◌++◌, List, length, slice_index_or, Option, None, Some, ⊤, option_to_list, if◌then◌else◌}
+use Rattle.nfa_paths.specs.Common.{Automaton, Node, node_at, Look, is_word_byte, StartLine, WordUnicode, WordUnicodeNegate, WordStartUnicode, WordEndUnicode, WordStartHalfUnicode, WordEndHalfUnicode, Holding, holding_at}
 pub use Rattle.thompson_nfa.specs.Looks.{byte_before}
 use Rattle.thompson_nfa.specs.declared.look.Look as looks
 
@@ -54,6 +54,29 @@ sees before after = holding_at (option_to_list before ++ option_to_list after) (
 pub record SameLooks (nfa : Automaton) (a b : Holding) : Type 0 where
   pub same : (s : ℕ) (look : looks.Look) (next : ℕ) → node_at nfa s ≡ Look look next → a look ≡ b look
 
--- a byte like this one, of four
-abbrev pub like : ℕ → ℕ
-like b = if is_word_byte b then 97 else (if b == 10 || b == 13 then b else 32)
+-- the bytes that an assertion tells from all others are marked
+abbrev pub IsMarked : List Bool → looks.Look → Type 0
+IsMarked marks (StartLine terminator) = slice_index_or marks terminator false ≡ true
+IsMarked marks _ = ⊤
+
+-- if the state is an assertion, its line terminator is marked
+abbrev pub IsMarkedBy : List Bool → Node → Type 0
+IsMarkedBy marks (Look look next) = IsMarked marks look
+IsMarkedBy marks _ = ⊤
+
+-- the line terminators of all assertions of the NFA are marked
+pub record AreTerminators (nfa : Automaton) (marks : List Bool) : Type 0 where
+  pub marked : (s : ℕ) → IsMarkedBy marks (node_at nfa s)
+
+-- each mark stays
+abbrev pub KeepsMarks : List Bool → List Bool → Type 0
+KeepsMarks old new = (b : ℕ) → slice_index_or old b false ≡ true → slice_index_or new b false ≡ true
+
+-- a byte like this one, of four, if no assertion has a line terminator of its own
+abbrev pub plain_like : ℕ → ℕ
+plain_like b = if is_word_byte b then 97 else (if b == 10 || b == 13 then b else 32)
+
+-- a byte like this one, if these are the line terminators
+abbrev pub like : List Bool → ℕ → ℕ
+like marks b =
+    if slice_index_or marks b false || slice_index_or marks (plain_like b) false then b else plain_like b

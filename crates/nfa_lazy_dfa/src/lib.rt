@@ -20,6 +20,7 @@ mod quick;
 mod scan;
 mod search;
 mod sparse;
+mod terminators;
 mod watch;
 mod window;
 

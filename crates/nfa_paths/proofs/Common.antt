@@ -51,7 +51,7 @@ unfoldable pub use Rattle.thompson_nfa.specs.Characters.{char_after, char_before
 pub use Rattle.thompson_nfa.specs.Characters.{char_of_len_after, char_of_len_before, is_some_word, only}
 pub use Rattle.thompson_nfa.specs.Flaws.{pattern_of, slot_of}
 pub use Rattle.thompson_nfa.specs.Looks.{byte_before, differ, is_byte_at, is_byte_before, is_whole_after, is_whole_before, is_word_after, is_word_before, is_word_byte, is_word_char_after, is_word_char_before, look_holds}
-pub use Rattle.thompson_nfa.specs.declared.look.Look.TheVariants.{End, EndCRLF, EndLF, Start, StartCRLF, StartLF, WordAscii, WordAsciiNegate, WordEndAscii, WordEndHalfAscii, WordEndHalfUnicode, WordEndUnicode, WordStartAscii, WordStartHalfAscii, WordStartHalfUnicode, WordStartUnicode, WordUnicode, WordUnicodeNegate}
+pub use Rattle.thompson_nfa.specs.declared.look.Look.TheVariants.{End, EndCRLF, EndLF, EndLine, Start, StartCRLF, StartLF, StartLine, WordAscii, WordAsciiNegate, WordEndAscii, WordEndHalfAscii, WordEndHalfUnicode, WordEndUnicode, WordStartAscii, WordStartHalfAscii, WordStartHalfUnicode, WordStartUnicode, WordUnicode, WordUnicodeNegate}
 pub use Rattle.thompson_nfa.specs.declared.state.State.{State}
 pub use Rattle.thompson_nfa.specs.declared.state.Transition.{Transition}
 pub use Rattle.thompson_nfa.proofs.FlawLemmas.{passes-at, no-flaw, all-take-suc}

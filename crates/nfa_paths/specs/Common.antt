@@ -28,7 +28,7 @@ pub use Rattle.thompson_nfa.specs.Automaton.{Automaton, Fail, IsAutomaton, Leads
 pub use Rattle.thompson_nfa.specs.Automaton.Node.{BinaryUnion, ByteRange, Capture, Dense, Look, Sparse, Union}
 pub use Rattle.thompson_nfa.specs.Flaws.{pattern_of, slot_of}
 pub use Rattle.thompson_nfa.specs.Looks.{is_word_byte, look_holds}
-pub use Rattle.thompson_nfa.specs.declared.look.Look.TheVariants.{EndLF, StartLF, WordEndHalfUnicode, WordEndUnicode, WordStartHalfUnicode, WordStartUnicode, WordUnicode, WordUnicodeNegate}
+pub use Rattle.thompson_nfa.specs.declared.look.Look.TheVariants.{EndLF, StartLF, StartLine, WordEndHalfUnicode, WordEndUnicode, WordStartHalfUnicode, WordStartUnicode, WordUnicode, WordUnicodeNegate}
 pub use Rattle.thompson_nfa.specs.declared.state.Transition.{Transition}
 unfoldable pub use Rattle.nfa_paths.specs.Exploring.{ExploresTo, seeds}
 pub use Rattle.nfa_paths.specs.Exploring.{Hit, Searching, Slots, Task}

@@ -10,7 +10,7 @@ use Rattle.unicode.proofs.TableComputing.{tables}
 use Rattle.thompson_nfa.specs.Characters.{char_before, char_after, is_word_char}
 use Rattle.thompson_nfa.specs.Looks.{is_word_byte, is_word_before, is_word_after, is_whole_before, is_whole_after, is_word_char_before, is_word_char_after, look_holds, byte_before, differ}
 use Rattle.thompson_nfa.specs.declared.look.Look.{Look}
-use Rattle.thompson_nfa.specs.declared.look.Look.TheVariants.{WordAscii, WordAsciiNegate, WordUnicode, WordUnicodeNegate, WordStartAscii, WordEndAscii, WordStartUnicode, WordEndUnicode, WordStartHalfAscii, WordEndHalfAscii, WordStartHalfUnicode, WordEndHalfUnicode, Start, End, StartLF, EndLF, StartCRLF, EndCRLF}
+use Rattle.thompson_nfa.specs.declared.look.Look.TheVariants.{WordAscii, WordAsciiNegate, WordUnicode, WordUnicodeNegate, WordStartAscii, WordEndAscii, WordStartUnicode, WordEndUnicode, WordStartHalfAscii, WordEndHalfAscii, WordStartHalfUnicode, WordEndHalfUnicode, Start, End, StartLF, EndLF, StartLine, EndLine, StartCRLF, EndCRLF}
 use Rattle.thompson_nfa.proofs.CharacterLemmas.{char_of_ascii, is_word_char_as_classed}
 use Rattle.std.specs.Option.{option_map_or}
 use Rattle.std.proofs.lemmas.Option.{slice_get-get_or, slice_get_past}
@@ -132,6 +132,8 @@ holds_between Start before after = is_none before
 holds_between End before after = is_none after
 holds_between StartLF before after = is_none before || is 10 before
 holds_between EndLF before after = is_none after || is 10 after
+holds_between (StartLine terminator) before after = is_none before || is terminator before
+holds_between (EndLine terminator) before after = is_none after || is terminator after
 holds_between StartCRLF before after = is_none before || is 10 before || (is 13 before && not (is 10 after))
 holds_between EndCRLF before after = is_none after || is 13 after || (is 10 after && not (is 13 before))
 holds_between WordAscii before after = differ (is_word before) (is_word after)
@@ -204,6 +206,8 @@ module _ (h : List ℕ) (at : ℕ) (within : at ≤ length h) where
   holds-between End = end-between
   holds-between StartLF = rw (start-between, before-between (λ b. b == 10)) refl
   holds-between EndLF = rw (end-between, after-between (λ b. b == 10)) refl
+  holds-between (StartLine terminator) = rw (start-between, before-between (λ b. b == terminator)) refl
+  holds-between (EndLine terminator) = rw (end-between, after-between (λ b. b == terminator)) refl
   holds-between StartCRLF =
       rw (
         start-between,

@@ -1,7 +1,8 @@
 -- an NFA as a value
-use Rattle.std.specs.Prelude.{◌≡◌, ℕ, ◌<◌, ◌⊎◌, Bool, true, false, List, [], ◌∷◌, length, All, Option, IfSome, ⊤}
+use Rattle.std.specs.Prelude.{◌≡◌, ℕ, ◌<◌, ◌⊎◌, Bool, true, false, List, [], ◌∷◌, length, All, map, Option, IfSome, ⊤}
 use Rattle.regex_search_core.specs.Groups.{slot_count}
 use Rattle.regex_search_core.specs.PatternSets.{number_of}
+use Rattle.thompson_nfa.specs.Looks.{with_terminator}
 use Rattle.thompson_nfa.specs.declared.look.Look as looks
 use Rattle.thompson_nfa.specs.declared.state.Transition.{Transition}
 use Rattle.thompson_nfa.specs.declared.state.State as code
@@ -95,6 +96,15 @@ pub record IsAutomaton (a : Automaton) : Type 0 where
   pub slots : AreSlotsWithin a
   pub patterns : ArePatternsWithin a
   pub groups : AreGroupsOfPatterns a
+
+-- the state, if this byte ends a line in place of a line feed
+abbrev pub node_with_terminator : ℕ → Node → Node
+node_with_terminator terminator (Look look next) = Look (with_terminator terminator look) next
+node_with_terminator terminator node = node
+
+-- the NFA, if this byte ends a line in place of a line feed
+abbrev pub nfa_with_terminator : ℕ → Automaton → Automaton
+nfa_with_terminator terminator a = record a { states = map (node_with_terminator terminator) a.states }
 
 -- the NFA of one pattern, the empty one, which matches everywhere: the states write its start, then its end, and match
 abbrev pub always : Automaton

@@ -2,7 +2,7 @@
 use Rattle.std.specs.Prelude.{ℕ, ◌-◌, Bool, not, ◌&&◌, ◌||◌, ◌==◌, nat_lt, nat_le, List, length, slice_index, slice_get, if◌then◌else◌, is_some, Option, None}
 use Rattle.thompson_nfa.specs.Characters.{char_before, char_after, is_some_word}
 use Rattle.thompson_nfa.specs.declared.look.Look.{Look}
-use Rattle.thompson_nfa.specs.declared.look.Look.TheVariants.{Start, End, StartLF, EndLF, StartCRLF, EndCRLF, WordAscii, WordAsciiNegate, WordUnicode, WordUnicodeNegate, WordStartAscii, WordEndAscii, WordStartUnicode, WordEndUnicode, WordStartHalfAscii, WordEndHalfAscii, WordStartHalfUnicode, WordEndHalfUnicode}
+use Rattle.thompson_nfa.specs.declared.look.Look.TheVariants.{Start, End, StartLF, EndLF, StartLine, EndLine, StartCRLF, EndCRLF, WordAscii, WordAsciiNegate, WordUnicode, WordUnicodeNegate, WordStartAscii, WordEndAscii, WordStartUnicode, WordEndUnicode, WordStartHalfAscii, WordEndHalfAscii, WordStartHalfUnicode, WordEndHalfUnicode}
 
 -- the byte is 0-9, A-Z, `_` or a-z
 abbrev pub is_word_byte : ℕ → Bool
@@ -72,6 +72,8 @@ look_holds Start haystack at = at == 0
 look_holds End haystack at = at == length haystack
 look_holds StartLF haystack at = at == 0 || is_byte_before haystack at 10
 look_holds EndLF haystack at = at == length haystack || is_byte_at haystack at 10
+look_holds (StartLine terminator) haystack at = at == 0 || is_byte_before haystack at terminator
+look_holds (EndLine terminator) haystack at = at == length haystack || is_byte_at haystack at terminator
 look_holds StartCRLF haystack at = is_crlf_start haystack at
 look_holds EndCRLF haystack at = is_crlf_end haystack at
 look_holds WordAscii haystack at = differ (is_word_before haystack at) (is_word_after haystack at)
@@ -86,3 +88,9 @@ look_holds WordStartHalfAscii haystack at = not (is_word_before haystack at)
 look_holds WordEndHalfAscii haystack at = not (is_word_after haystack at)
 look_holds WordStartHalfUnicode haystack at = is_whole_before haystack at && not (is_word_char_before haystack at)
 look_holds WordEndHalfUnicode haystack at = is_whole_after haystack at && not (is_word_char_after haystack at)
+
+-- the assertion, if this byte ends a line in place of a line feed
+abbrev pub with_terminator : ℕ → Look → Look
+with_terminator terminator StartLF = StartLine terminator
+with_terminator terminator EndLF = EndLine terminator
+with_terminator terminator look = look

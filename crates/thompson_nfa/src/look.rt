@@ -1,7 +1,7 @@
 //! Assertions, and the positions at which they hold.
 ghost use Rattle.std.specs.Prelude.{◌≡◌, ◌≤◌, length};
 ghost use Rattle.thompson_nfa.specs.Looks.{look_holds, is_byte_before, is_byte_at, is_word_before, is_word_after};
-ghost use Rattle.thompson_nfa.specs.Looks.{is_word_byte};
+ghost use Rattle.thompson_nfa.specs.Looks.{is_word_byte, with_terminator};
 ghost use Rattle.thompson_nfa.specs.Looks.{is_crlf_start, is_crlf_end, is_not_word_boundary};
 
 use crate::characters::{is_whole_after, is_whole_before, is_word_char_after, is_word_char_before};
@@ -24,6 +24,12 @@ pub enum Look {
     StartLF,
     /// `(?m:$)`: the position is the haystack's length, or before `\n`.
     EndLF,
+    /// The position is 0, or after this byte, the line terminator. [`NFA::with_line_terminator`] makes it of `StartLF`.
+    ///
+    /// [`NFA::with_line_terminator`]: crate::NFA::with_line_terminator
+    StartLine(u8),
+    /// The position is the haystack's length, or before this byte, the line terminator.
+    EndLine(u8),
     /// `(?mR:^)`: the position is 0, after `\n`, or after `\r` and not before `\n`.
     StartCRLF,
     /// `(?mR:$)`: the position is the haystack's length, before `\r`, or before `\n` and not after `\r`.
@@ -55,6 +61,20 @@ pub enum Look {
     WordEndHalfUnicode,
 }
 
+impl Look {
+    /// Returns the assertion, with this byte as the line terminator in place of `\n`: `StartLine` for `StartLF`, and
+    /// `EndLine` for `EndLF`. All others stay.
+    pub(crate) fn with_line_terminator(self, byte: u8) -> Look
+        ensures { result ≡ with_terminator byte self }
+    {
+        match self {
+            Look::StartLF => Look::StartLine(byte),
+            Look::EndLF => Look::EndLine(byte),
+            look => look,
+        }
+    }
+}
+
 /// Returns whether the assertion holds at the offset `at` of the whole haystack. Requires that `at` is at most the
 /// haystack's length.
 pub fn look_matches(look: Look, haystack: &[u8], at: usize) -> bool
@@ -66,6 +86,8 @@ pub fn look_matches(look: Look, haystack: &[u8], at: usize) -> bool
         Look::End => at == haystack.len(),
         Look::StartLF => at == 0 || is_byte_before(haystack, at, b'\n'),
         Look::EndLF => at == haystack.len() || is_byte_at(haystack, at, b'\n'),
+        Look::StartLine(byte) => at == 0 || is_byte_before(haystack, at, byte),
+        Look::EndLine(byte) => at == haystack.len() || is_byte_at(haystack, at, byte),
         Look::StartCRLF => is_crlf_start(haystack, at),
         Look::EndCRLF => is_crlf_end(haystack, at),
         Look::WordAscii => word_before(haystack, at) != word_after(haystack, at),

@@ -3,6 +3,7 @@ ghost use Rattle.std.specs.Prelude.{◌≡◌, ◌<◌, ◌≤◌, ◌↔◌, le
 ghost use Rattle.regex_search_core.specs.Groups.{names_of, slot_count};
 ghost use Rattle.regex_search_core.specs.PatternSets.{number_of};
 ghost use Rattle.thompson_nfa.specs.Automaton.{Automaton, IsAutomaton, LeadsBelow, SlotBelow, PatternBelow, node_of};
+ghost use Rattle.thompson_nfa.specs.Automaton.{node_with_terminator};
 
 use crate::flaw::{Flaw, first_flaw};
 use crate::state::State;
@@ -134,7 +135,7 @@ impl Model for NFA {
 
 impl NFA {
     ghost use Rattle.thompson_nfa.specs.Flaws.{IsBuilt};
-    ghost use Rattle.thompson_nfa.specs.Automaton.{always, never};
+    ghost use Rattle.thompson_nfa.specs.Automaton.{always, never, nfa_with_terminator};
 
     /// Makes the NFA of these states. The number of a state is its index. Anchored searches start at `anchored`, all
     /// others at `unanchored`; `patterns` has the start state of each pattern.
@@ -208,6 +209,16 @@ impl NFA {
         let states = vec![in alloc; State::Fail]?;
         let groups = groups_named(Vec::new(alloc));
         NFA::from_states(states, start, start, Vec::new(alloc), groups, false, false)
+    }
+
+    /// Returns the NFA with this byte as the line terminator in place of `\n`: each `StartLF` is `StartLine` of the byte,
+    /// and each `EndLF` is `EndLine`. All else stays, so `.` in a pattern still matches all but `\n`, and assertions of
+    /// `\r\n` stay as they are.
+    pub fn with_line_terminator(mut self, byte: u8) -> NFA
+        ensures { result ≡ nfa_with_terminator byte self }
+    {
+        set_line_terminator(&mut self.states, byte);
+        self
     }
 
     /// Returns the states, in the order of their numbers.
@@ -344,4 +355,13 @@ fn clone_states(alloc: Global, states: &[State]) -> Result<Vec<State>, BuildErro
         copy.push(state.clone()?)?;
     }
     Ok(copy)
+}
+
+/// Makes this byte the line terminator of all states.
+fn set_line_terminator(states: &mut [State], byte: u8)
+    ensures { map node_of states.new ≡ map (node_with_terminator byte) (map node_of states.old) }
+{
+    for state in states.iter_mut() {
+        state.set_line_terminator(byte);
+    }
 }

@@ -1,6 +1,6 @@
 //! The states of an NFA.
 ghost use Rattle.std.specs.Prelude.{◌≡◌, IfOk};
-ghost use Rattle.thompson_nfa.specs.Automaton.{node_of};
+ghost use Rattle.thompson_nfa.specs.Automaton.{node_of, node_with_terminator};
 
 use crate::look::Look;
 use regex_search_core::{PatternID, StateID};
@@ -68,5 +68,14 @@ impl State {
                 pattern_id: *pattern_id,
             },
         })
+    }
+
+    /// Makes this byte the line terminator of the state's assertion, if it is one of lines that `\n` ends.
+    pub(crate) fn set_line_terminator(&mut self, byte: u8)
+        ensures { node_of self.new ≡ node_with_terminator byte (node_of self.old) }
+    {
+        if let State::Look { look, .. } = self {
+            *look = look.with_line_terminator(byte);
+        }
     }
 }

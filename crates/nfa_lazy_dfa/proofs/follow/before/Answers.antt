@@ -11,4 +11,4 @@ returns-in_ok-byte c = λ after after_read.
     let read : IsRead dfa.nfa (Some byte) = subst (IsRead dfa.nfa) c.in_ok-byte.was c.requires in
     rw c.in_ok-byte.was
     (subst (λ (b : ℕ). SameLooks dfa.nfa (sees (Some b) after) (sees (Some byte) after)) (sym c.like.ensures)
-    (same-like dfa.nfa byte after read after_read))
+    (same-like dfa.nfa dfa.terminators dfa.terminators_are byte after read after_read))
