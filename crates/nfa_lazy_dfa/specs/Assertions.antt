@@ -66,7 +66,8 @@ IsMarkedBy marks _ = ⊤
 
 -- the line terminators of all assertions of the NFA are marked
 pub record AreTerminators (nfa : Automaton) (marks : List Bool) : Type 0 where
-  pub marked : (s : ℕ) → IsMarkedBy marks (node_at nfa s)
+  pub marked : (s terminator next : ℕ) → node_at nfa s ≡ Look (StartLine terminator) next
+      → slice_index_or marks terminator false ≡ true
 
 -- each mark stays
 abbrev pub KeepsMarks : List Bool → List Bool → Type 0
