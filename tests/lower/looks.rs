@@ -19,7 +19,11 @@ const HOLDS: &[(Look, &[u8], &[bool])] = &[
     (Look::StartLine(0), b"a\x00b", &[true, false, true, false]),
     (Look::StartLine(0), b"a\nb", &[true, false, false, false]),
     (Look::StartLine(b'b'), b"bb", &[true, true, true]),
-    (Look::StartLine(b'\n'), b"a\r\nb", &[true, false, false, true, false]),
+    (
+        Look::StartLine(b'\n'),
+        b"a\r\nb",
+        &[true, false, false, true, false],
+    ),
     (Look::StartLine(0), b"", &[true]),
     (Look::EndLine(0), b"a\x00b", &[false, true, false, true]),
     (Look::EndLine(0), b"a\nb", &[false, false, false, true]),

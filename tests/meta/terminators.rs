@@ -67,9 +67,17 @@ fn expect_same(rt: &impl TestRuntime, pattern: &str, terminator: u8) -> Result<(
         let other = exchanged(rt, terminator, &text)?;
         let found = all_of(rt, &mut regex, &text)?;
         let wanted = all_of(rt, &mut plain, &other)?;
-        assert_eq!(rt; found.as_slice(), wanted.as_slice(), "{pattern} {terminator} {text:?}");
+        assert_eq!(rt;
+            found.as_slice(),
+            wanted.as_slice(),
+            "{pattern} {terminator} {text:?}"
+        );
         let chosen: Vec<Match> = choice.find_iter(Input::new(&text)).collect(rt.alloc())?;
-        assert_eq!(rt; found.as_slice(), chosen.as_slice(), "{pattern} {terminator} {text:?}");
+        assert_eq!(rt;
+            found.as_slice(),
+            chosen.as_slice(),
+            "{pattern} {terminator} {text:?}"
+        );
     }
     Ok(())
 }
