@@ -41,4 +41,4 @@ groups-built b text hir names nfa reads = ended (b.config.line_terminator == 10)
         × (nfa ≡ nfa_with_terminator b.config.line_terminator plain))
         → nfa.groups ≡ drop 1 names ∷ []
     ended true is = of nfa is
-    ended false is = ap (λ (a : Automaton). a.groups) is.2.1 ∙ of is.0 is.1
+    ended false is = ap (λ (a : Automaton). a.groups) is.2 ∙ of is.0 is.1
