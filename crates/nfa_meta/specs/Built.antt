@@ -93,8 +93,8 @@ pub record IsCompiledBy (b : Builder) (texts : List (List ℕ)) (nfa : Automaton
   pub anywhere : b.config.utf8 ≡ false → is_utf8_empty nfa ≡ false
   pub fits : TextsFitIn b.config.nfa_size_limit (syntax_of (compiler_of b)) texts
 
--- This is true of the NFA; or it is true of an NFA that differs only by its line terminator, which is this byte here and
--- a line feed there.
+-- This is true of the NFA; or it is true of an NFA that differs only by its line terminator, which is this byte here
+-- and a line feed there.
 abbrev pub HasLines : ℕ → (Automaton → Type 0) → Automaton → Type 0
 HasLines terminator Is nfa =
     MatchBool (terminator == 10) (Is nfa)

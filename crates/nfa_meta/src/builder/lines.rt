@@ -10,8 +10,8 @@ use thompson_nfa::NFA;
 impl Config {
     /// Sets the byte that ends a line for `^` and `$` in multi-line mode. It is `\n` by default.
     ///
-    /// As in `regex_automata::meta::Config`, nothing else changes: `.` matches all but `\n` as before, and with the flag
-    /// `R` only `\r` and `\n` end lines. It has no effect if a regex is made of an NFA:
+    /// As in `regex_automata::meta::Config`, nothing else changes: `.` matches all but `\n` as before, and with the
+    /// flag `R` only `\r` and `\n` end lines. It has no effect if a regex is made of an NFA:
     /// [`NFA::with_line_terminator`] does the same there.
     ///
     /// ```
