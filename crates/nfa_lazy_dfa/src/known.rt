@@ -347,6 +347,61 @@ pub fn run(dfa: &DFA, cache: &Cache, input: &Input<'_>, from: Place) -> Place
     Place { at, row, found }
 }
 
+/// Where the cells of the next row begin, if the byte leads to a row without a match by a cell without a mark.
+#[inline(always)]
+fn over_plain(dfa: &DFA, cache: &Cache, input: &Input<'_>, at: usize, first: u32) -> Option<u32>
+    requires own { IsFor cache.now dfa.now }
+    requires inside { at < (search_of input.now).end }
+    requires whole { first % ROW_CELLS ≡ 0 }
+    requires at { IsAt dfa.now cache.now (search_of input.now) at (first / ROW_CELLS) }
+    ensures whole { IfSome result (λ next. next % ROW_CELLS ≡ 0) }
+    ensures at { IfSome result (λ next.
+        IsAt dfa.now cache.now (search_of input.now) (at + 1) (next / ROW_CELLS)) }
+{
+    let cell = read_cell(dfa, cache, input, at, first);
+    if cell >= IDLE {
+        return None;
+    }
+    Some(cell)
+}
+
+/// Whether two bytes lead from the row with a match back to it, over a row without one.
+#[inline(always)]
+fn stays_by_two(dfa: &DFA, cache: &Cache, input: &Input<'_>, at: usize, first: u32) -> bool
+    requires own { IsFor cache.now dfa.now }
+    requires late { (search_of input.now).earliest ≡ false }
+    requires inside { at + 1 < (search_of input.now).end }
+    requires whole { first % ROW_CELLS ≡ 0 }
+    requires at { IsMatchedAt dfa.now cache.now (search_of input.now) at first }
+    ensures { IsTrue result → IsMatchedAt dfa.now cache.now (search_of input.now) (at + 2) first }
+{
+    let Some(between) = over_plain(dfa, cache, input, at, first) else {
+        return false;
+    };
+    read_cell(dfa, cache, input, at + 1, between) == first + MATCHED
+}
+
+/// Goes on over pairs of bytes that lead from the row with a match back to it, as characters of two bytes do. Returns
+/// the position.
+#[inline(always)]
+fn past_pairs(dfa: &DFA, cache: &Cache, input: &Input<'_>, from: usize, first: u32) -> usize
+    requires own { IsFor cache.now dfa.now }
+    requires late { (search_of input.now).earliest ≡ false }
+    requires whole { first % ROW_CELLS ≡ 0 }
+    requires at { IsMatchedAt dfa.now cache.now (search_of input.now) from first }
+    ensures at { IsMatchedAt dfa.now cache.now (search_of input.now) result first }
+    ensures low { from ≤ result }
+{
+    let mut at = from;
+    while input.end() - at >= 2 {
+        if !stays_by_two(dfa, cache, input, at, first) {
+            return at;
+        }
+        at += 2;
+    }
+    at
+}
+
 /// Goes on as [`run`], one byte at a time. It is faster if rows with a match and others take turns, as where characters
 /// of several bytes match.
 #[inline(always)]
@@ -374,7 +429,7 @@ pub fn run_by_byte(dfa: &DFA, cache: &Cache, input: &Input<'_>, from: Place) -> 
         let Some(matched) = over_match(dfa, cache, input, at, first) else {
             break;
         };
-        at += 1;
+        at = past_pairs(dfa, cache, input, at + 1, matched);
         first = matched;
         found = half_at(cache.stands[first as usize / ROW_CELLS].hit, at - 1);
     }
