@@ -1,5 +1,5 @@
 -- The cell leads to a row without a match.
-use Rattle.nfa_paths.proofs.Common.{◌≡◌, ◌%◌, ◌<◌, ◌/◌, ◌+◌, ℕ, subst, arith, get_or, search_of}
+use Rattle.nfa_paths.proofs.Common.{◌≡◌, ◌/◌, ◌+◌, subst, arith, get_or, search_of}
 use Rattle.nfa_lazy_dfa.specs.Rows.{IsAt, row_of}
 use Rattle.nfa_lazy_dfa.proofs.RunLemmas.{leads-on}
 use Rattle.nfa_lazy_dfa.proofs.ScanLemmas.{IsAt-next}

@@ -1,5 +1,5 @@
 -- A cell leads to what the byte leads to; one with a match is followed only if later matches count.
-use Rattle.nfa_paths.proofs.Common.{◌≡◌, ◌+◌, ◌/◌, ◌∙◌, false, sym, arith, search_of}
+use Rattle.nfa_paths.proofs.Common.{◌≡◌, ◌/◌, ◌∙◌, false, sym, arith, search_of}
 use Rattle.nfa_lazy_dfa.specs.Rows.{IsRowOf}
 use Rattle.nfa_lazy_dfa.specs.Stances.{stance_of}
 use Rattle.nfa_lazy_dfa.proofs.CacheLemmas.{row-inside, row-is}
