@@ -275,78 +275,6 @@ fn past_match(
     at
 }
 
-/// Goes on over cells that lead to rows with a match. Returns the position and where the cells of the row there begin.
-#[inline(always)]
-pub fn pass_matches(
-    dfa: &DFA,
-    cache: &Cache,
-    input: &Input<'_>,
-    from: usize,
-    row: u32,
-) -> (usize, u32)
-    requires own { IsFor cache.now dfa.now }
-    requires late { (search_of input.now).earliest ≡ false }
-    requires whole { row % ROW_CELLS ≡ 0 }
-    requires at { IsMatchedAt dfa.now cache.now (search_of input.now) from row }
-    ensures whole { result.1 % ROW_CELLS ≡ 0 }
-    ensures at { IsMatchedAt dfa.now cache.now (search_of input.now) result.0 result.1 }
-    ensures low { from ≤ result.0 }
-{
-    let end = input.end();
-    if from >= end {
-        return (from, row);
-    }
-    let Some(second) = over_match(dfa, cache, input, from, row) else {
-        return (from, row);
-    };
-    let mut at = past_match(dfa, cache, input, from + 1, second, row);
-    let mut first = second;
-    while at < end {
-        let Some(next) = over_match(dfa, cache, input, at, first) else {
-            return (at, first);
-        };
-        first = next;
-        at += 1;
-    }
-    (at, first)
-}
-
-/// Goes on over cells up to one that leads to a dead row or is unknown, or with `earliest` up to one with a match.
-#[inline(always)]
-pub fn run(dfa: &DFA, cache: &Cache, input: &Input<'_>, from: Place) -> Place
-    requires own { IsFor cache.now dfa.now }
-    requires at { IsFoundAt dfa.now cache.now (search_of input.now) from }
-    ensures at { IsFoundAt dfa.now cache.now (search_of input.now) result }
-    ensures low { from.at ≤ result.at }
-{
-    let earliest = input.get_earliest();
-    let end = input.end();
-    let mut at = from.at;
-    let mut first = from.row * ROW_CELLS as u32;
-    let mut found = from.found;
-    while at < end {
-        let cell = cell_at(dfa, cache, input, at, first, found);
-        if cell < MATCHED {
-            let (next, row) = pass(dfa, cache, input, at + 1, cell % IDLE, found);
-            at = next;
-            first = row;
-            continue;
-        }
-        if earliest {
-            break;
-        }
-        let Some(matched) = over_match(dfa, cache, input, at, first) else {
-            break;
-        };
-        let (next, row) = pass_matches(dfa, cache, input, at + 1, matched);
-        found = half_at(cache.stands[row as usize / ROW_CELLS].hit, next - 1);
-        at = next;
-        first = row;
-    }
-    let row = first / ROW_CELLS as u32;
-    Place { at, row, found }
-}
-
 /// Where the cells of the next row begin, if the byte leads to a row without a match by a cell without a mark.
 #[inline(always)]
 fn over_plain(dfa: &DFA, cache: &Cache, input: &Input<'_>, at: usize, first: u32) -> Option<u32>
@@ -402,6 +330,79 @@ fn past_pairs(dfa: &DFA, cache: &Cache, input: &Input<'_>, from: usize, first: u
     at
 }
 
+/// Goes on over cells that lead to rows with a match, or else over pairs of bytes that lead back to the row. Returns the
+/// position and where the cells of the row there begin.
+#[inline(always)]
+pub fn pass_matches(
+    dfa: &DFA,
+    cache: &Cache,
+    input: &Input<'_>,
+    from: usize,
+    row: u32,
+) -> (usize, u32)
+    requires own { IsFor cache.now dfa.now }
+    requires late { (search_of input.now).earliest ≡ false }
+    requires whole { row % ROW_CELLS ≡ 0 }
+    requires at { IsMatchedAt dfa.now cache.now (search_of input.now) from row }
+    ensures whole { result.1 % ROW_CELLS ≡ 0 }
+    ensures at { IsMatchedAt dfa.now cache.now (search_of input.now) result.0 result.1 }
+    ensures low { from ≤ result.0 }
+{
+    let end = input.end();
+    if from >= end {
+        return (from, row);
+    }
+    let Some(second) = over_match(dfa, cache, input, from, row) else {
+        return (past_pairs(dfa, cache, input, from, row), row);
+    };
+    let mut at = past_match(dfa, cache, input, from + 1, second, row);
+    let mut first = second;
+    while at < end {
+        let Some(next) = over_match(dfa, cache, input, at, first) else {
+            return (at, first);
+        };
+        first = next;
+        at += 1;
+    }
+    (at, first)
+}
+
+/// Goes on over cells up to one that leads to a dead row or is unknown, or with `earliest` up to one with a match.
+#[inline(always)]
+pub fn run(dfa: &DFA, cache: &Cache, input: &Input<'_>, from: Place) -> Place
+    requires own { IsFor cache.now dfa.now }
+    requires at { IsFoundAt dfa.now cache.now (search_of input.now) from }
+    ensures at { IsFoundAt dfa.now cache.now (search_of input.now) result }
+    ensures low { from.at ≤ result.at }
+{
+    let earliest = input.get_earliest();
+    let end = input.end();
+    let mut at = from.at;
+    let mut first = from.row * ROW_CELLS as u32;
+    let mut found = from.found;
+    while at < end {
+        let cell = cell_at(dfa, cache, input, at, first, found);
+        if cell < MATCHED {
+            let (next, row) = pass(dfa, cache, input, at + 1, cell % IDLE, found);
+            at = next;
+            first = row;
+            continue;
+        }
+        if earliest {
+            break;
+        }
+        let Some(matched) = over_match(dfa, cache, input, at, first) else {
+            break;
+        };
+        let (next, row) = pass_matches(dfa, cache, input, at + 1, matched);
+        found = half_at(cache.stands[row as usize / ROW_CELLS].hit, next - 1);
+        at = next;
+        first = row;
+    }
+    let row = first / ROW_CELLS as u32;
+    Place { at, row, found }
+}
+
 /// Goes on as [`run`], one byte at a time. It is faster if rows with a match and others take turns, as where characters
 /// of several bytes match.
 #[inline(always)]
@@ -429,7 +430,7 @@ pub fn run_by_byte(dfa: &DFA, cache: &Cache, input: &Input<'_>, from: Place) -> 
         let Some(matched) = over_match(dfa, cache, input, at, first) else {
             break;
         };
-        at = past_pairs(dfa, cache, input, at + 1, matched);
+        at += 1;
         first = matched;
         found = half_at(cache.stands[first as usize / ROW_CELLS].hit, at - 1);
     }

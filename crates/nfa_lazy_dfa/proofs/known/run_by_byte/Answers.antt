@@ -1,5 +1,5 @@
 -- A cell leads to what the byte leads to; one with a match is followed only if later matches count.
-use Rattle.nfa_paths.proofs.Common.{◌≡◌, ◌/◌, ◌∙◌, false, sym, arith, search_of}
+use Rattle.nfa_paths.proofs.Common.{◌≡◌, ◌+◌, ◌/◌, ◌∙◌, false, sym, arith, search_of}
 use Rattle.nfa_lazy_dfa.specs.Rows.{IsRowOf}
 use Rattle.nfa_lazy_dfa.specs.Stances.{stance_of}
 use Rattle.nfa_lazy_dfa.proofs.CacheLemmas.{row-inside, row-is}
@@ -19,14 +19,14 @@ loop-at-preserved c =
     let cache = c.args.cache.now in
     let row = c.in-Some.matched in
     let late : x.earliest ≡ false = sym c.get_earliest-is_earliest.ensures ∙ c.if-is_earliest.false in
-    let here = c.past_pairs-at.ensures.at in
+    let here = c.in-Some.ensures.at late in
     let t = stance_of c.index.result.now in
     let known : IsRowOf cache (row / 256) t =
     row-is cache (row / 256) c.index.result.now (row-inside cache (row / 256) here.at.stance here.at.is) c.index.ensures
     in
     record {
       whole = c.in-Some.ensures.whole;
-      at = found-matched c.args.dfa.now x cache c.past_pairs-at.result row here late t known c.half_at-found.result
+      at = found-matched c.args.dfa.now x cache (c.loop-at.at + 1) row here late t known c.half_at-found.result
           c.half_at-found.ensures;
       low = omega arith;
     }
