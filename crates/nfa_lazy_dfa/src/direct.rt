@@ -141,41 +141,9 @@ fn after_plain(
     (Place { at, row, found }, false)
 }
 
-/// The same after the next byte but one, if the cell of the next one has no mark, as where a character of two bytes is
-/// the last one of a match.
-#[inline(always)]
-fn after_two(
-    dfa: &DFA,
-    cache: &Cache,
-    input: &Input<'_>,
-    ahead: Ahead,
-    found: Option<HalfMatch>,
-) -> (Place, bool)
-    requires own { IsFor cache.now dfa.now }
-    requires at { IsFoundAt dfa.now cache.now (search_of input.now) (place_at ahead.at ahead.first found) }
-    requires cell { IsCellAt dfa.now cache.now (search_of input.now) ahead.at ahead.first ahead.cell }
-    ensures next { IsNextPlace dfa.now cache.now (search_of input.now) result.0 result.1 }
-    ensures low { ahead.at ≤ result.0.at }
-{
-    let Ahead { at, first, cell } = ahead;
-    if cell >= IDLE {
-        let row = first / ROW_CELLS as u32;
-        return (Place { at, row, found }, false);
-    }
-    let next = at + 1;
-    let beyond = next_cell(dfa, cache, input, next, cell);
-    let there = Ahead {
-        at: next,
-        first: cell,
-        cell: beyond,
-    };
-    after_plain(dfa, cache, input, there, found)
-}
-
 /// The same for a scan whose last match is that of the row.
 #[inline(always)]
 fn after_match(dfa: &DFA, cache: &Cache, input: &Input<'_>, ahead: Ahead) -> (Place, bool)
-    requires own { IsFor cache.now dfa.now }
     requires late { (search_of input.now).earliest ≡ false }
     requires low { 0 < ahead.at }
     requires at { IsMatchedAt dfa.now cache.now (search_of input.now) ahead.at ahead.first }
@@ -197,8 +165,9 @@ fn after_match(dfa: &DFA, cache: &Cache, input: &Input<'_>, ahead: Ahead) -> (Pl
             true,
         );
     }
-    let found = hit_at(cache, first / ROW_CELLS as u32, at - 1);
-    after_two(dfa, cache, input, ahead, found)
+    let row = first / ROW_CELLS as u32;
+    let found = hit_at(cache, row, at - 1);
+    (Place { at, row, found }, false)
 }
 
 /// Goes on over known cells, straight to the end of a match. Returns the place that the scan came to, and whether it is

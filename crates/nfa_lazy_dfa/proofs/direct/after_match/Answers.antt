@@ -2,8 +2,9 @@
 use Rattle.nfa_paths.proofs.Common.{cases_lt, ◌≡◌, ◌+◌, ◌/◌, ◌<◌, ◌%◌, ◌∙◌, ℕ, inl, inr, true, get_or, sym, subst, arith, option_map, half_found_of, search_of}
 use Rattle.nfa_lazy_dfa.specs.Places.{IsNextPlace}
 use Rattle.nfa_lazy_dfa.specs.Rows.{Leads, row_of, stances_of}
+use Rattle.nfa_lazy_dfa.specs.Runs.{place_at}
 use Rattle.nfa_lazy_dfa.proofs.CacheLemmas.{row-inside}
-use Rattle.nfa_lazy_dfa.proofs.DirectLemmas.{found-hit, found-plain, next-ended}
+use Rattle.nfa_lazy_dfa.proofs.DirectLemmas.{found-hit, found-plain, next-ended, next-here}
 use Rattle.nfa_lazy_dfa.proofs.RunLemmas.{found-matched}
 use Rattle.nfa_lazy_dfa.proofs.ScanLemmas.{found_at}
 use Rattle.nfa_lazy_dfa.specs.declared.scan.Place.{Place}
@@ -59,10 +60,14 @@ pub hit_at-found-requires : goal.hit_at-found-requires
 hit_at-found-requires c =
     let here = c.requires.at.at in row-inside c.args.cache.now (c.args.ahead.first / 256) here.stance here.is
 
-pub after_two-requires-clause-at : goal.after_two-requires-clause-at
-after_two-requires-clause-at c =
+pub returns-clause-next : goal.returns-clause-next
+returns-clause-next c =
     let x = search_of c.args.input.now in
+    let dfa = c.args.dfa.now in
+    let cache = c.args.cache.now in
     let a = c.args.ahead in
     let here = c.requires.at in
-    found-matched c.args.dfa.now x c.args.cache.now a.at a.first here c.requires.late here.at.stance here.at.is
-    c.hit_at-found.result (c.hit_at-found.ensures here.at.stance here.at.is)
+    let half = c.hit_at-found.result in
+    next-here dfa x cache (place_at a.at a.first half)
+    (found-matched dfa x cache a.at a.first here c.requires.late here.at.stance here.at.is half
+    (c.hit_at-found.ensures here.at.stance here.at.is))
