@@ -330,8 +330,8 @@ fn past_pairs(dfa: &DFA, cache: &Cache, input: &Input<'_>, from: usize, first: u
     at
 }
 
-/// Goes on over cells that lead to rows with a match, or else over pairs of bytes that lead back to the row. Returns the
-/// position and where the cells of the row there begin.
+/// Goes on over cells that lead to rows with a match, or else over pairs of bytes that lead back to the row. Returns
+/// the position and where the cells of the row there begin.
 #[inline(always)]
 pub fn pass_matches(
     dfa: &DFA,

@@ -109,8 +109,8 @@ impl Literals {
         self.next_begin(nfa, input, from)
     }
 
-    /// Returns such a position, as far as the first bytes and the required ones say. A call of its own, so that a search
-    /// for a prefix saves no registers.
+    /// Returns such a position, as far as the first bytes and the required ones say. A call of its own, so that a
+    /// search for a prefix saves no registers.
     #[inline(never)]
     fn next_begin(&self, nfa: &NFA, input: &Input<'_>, from: usize) -> Option<usize>
         requires of { AreLiteralsOf nfa.now self.now }
