@@ -1,7 +1,7 @@
 //! What a round does with a text: a call of `nfa_meta::Regex`, and the one of the crate regex that does the same.
 
 use named_engine::Failure;
-use nfa_engines::Input;
+use nfa_engines::{Captures, Input};
 use nfa_meta::Regex as Meta;
 use regex::bytes::{Matcher, Template};
 use std::alloc::Global;
@@ -14,7 +14,9 @@ pub enum Call {
     LentCaptures,
     IsMatch,
     Find,
+    Captures,
     Split,
+    SplitAll,
     ReplaceAll,
 }
 
@@ -27,14 +29,23 @@ impl Call {
             "-lent" => Some(Call::LentCaptures),
             "-is-match" => Some(Call::IsMatch),
             "-find" => Some(Call::Find),
+            "-once" => Some(Call::Captures),
             "-split" => Some(Call::Split),
+            "-split-all" => Some(Call::SplitAll),
             "-replace" => Some(Call::ReplaceAll),
             _ => None,
         }
     }
 
     /// Makes the call, and returns the number of items, the end of the match, or the length of the text that is made.
-    pub fn of_meta(self, alloc: Global, meta: &mut Meta, text: &[u8]) -> Result<u64, Failure> {
+    /// The captures are those that a call fills.
+    pub fn of_meta(
+        self,
+        alloc: Global,
+        meta: &mut Meta,
+        captures: &mut Captures,
+        text: &[u8],
+    ) -> Result<u64, Failure> {
         let input = Input::new(text);
         match self {
             Call::FindIter => Ok(meta.find_iter(input).count() as u64),
@@ -42,7 +53,12 @@ impl Call {
             Call::LentCaptures => count_lent(alloc, meta, text),
             Call::IsMatch => Ok(meta.is_match(input) as u64),
             Call::Find => Ok(meta.find(input).map_or(0, |found| found.end() as u64)),
-            Call::Split => Ok(meta.split_all(alloc, text)?.len() as u64),
+            Call::Captures => {
+                meta.search_captures(&input, captures);
+                Ok(captures.get_match().map_or(0, |found| found.end() as u64))
+            }
+            Call::Split => Ok(meta.split(text).count() as u64),
+            Call::SplitAll => Ok(meta.split_all(alloc, text)?.len() as u64),
             Call::ReplaceAll => Ok(meta.replace_all(alloc, text, b"-")?.len() as u64),
         }
     }
@@ -59,7 +75,15 @@ impl Call {
             Call::CapturesIter | Call::LentCaptures => Ok(count_captured(matcher, text)),
             Call::IsMatch => Ok(matcher.is_match(text) as u64),
             Call::Find => Ok(matcher.find(text).map_or(0, |found| found.end() as u64)),
+            Call::Captures => {
+                let found = matcher.captures(text);
+                Ok(found.map_or(0, |captures| captures.get_match().end() as u64))
+            }
             Call::Split => Ok(matcher.split(text).count() as u64),
+            Call::SplitAll => {
+                let pieces: Vec<&[u8]> = matcher.split(text).collect(alloc)?;
+                Ok(pieces.len() as u64)
+            }
             Call::ReplaceAll => {
                 let template = Template::literal(alloc, b"-")?;
                 Ok(matcher.replace_all(alloc, text, &template)?.len() as u64)

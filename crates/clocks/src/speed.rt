@@ -110,9 +110,10 @@ fn meta_rounds(
     call: Call,
 ) -> Result<u64, Stop> {
     let mut meta = Meta::new(alloc, pattern)?;
+    let mut captures = meta.create_captures(alloc)?;
     let mut count = 0;
     for _ in 0..rounds {
-        count = call.of_meta(alloc, &mut meta, text)?;
+        count = call.of_meta(alloc, &mut meta, &mut captures, text)?;
     }
     Ok(count)
 }
