@@ -1,18 +1,19 @@
 -- The records of a text, by those of its parts, what reads and passes give of them, and where bytes occur in them.
-use Rattle.std.proofs.Common.{ℕ, ◌+◌, ◌<◌, All, List, [], ◌∷◌, ◌++◌, length, take, drop, arith, length-append, take-append-drop, ◌≡◌, Option, Some, IfSome, Bool, true, false, ap, refl, ◌==◌, cond, ◌≤◌, length-take-le, rules}
+use Rattle.std.proofs.Common.{ℕ, ◌+◌, ◌<◌, All, List, [], ◌∷◌, ◌++◌, length, take, drop, arith, length-append, take-append-drop, ◌≡◌, Option, Some, IfSome, Bool, true, false, ap, refl, ◌==◌, cond, ◌≤◌, length-take-le, rules, slice_index, take_all, drop_of_length-le, eq-eqb, eqb-true, sym, ◌∙◌, None, subst}
 use Rattle.std.specs.List.{concat, count_by}
 use Rattle.std.proofs.Math.Seq.{drop-append_seam, take-append_seam}
 use Rattle.std.proofs.lemmas.Grind.{common_steps}
-use Rattle.std.proofs.lemmas.List.{get_or-append-add, get_or_append_left}
+use Rattle.std.proofs.lemmas.List.{get_or-append-add, get_or_append_left, get_or-take}
 use Rattle.std.proofs.lemmas.List.Elements.{All-cons, All-drop, All-nil, All-take}
-use Rattle.memchr.specs.Find.{OccursAt, is_byte, places}
-use Rattle.text_lines.specs.Lines.{HasBytes, Lacks, record_content, AreFirstRecords, TakesRecord, line_feed, lines_of, EndsRecord, HasWhole, PassesRecords, HasNoRecord}
+use Rattle.memchr.specs.Find.{OccursAt, Passes, is_byte, places}
+use Rattle.text_lines.specs.Lines.{HasBytes, Lacks, record_content, AreFirstRecords, TakesRecord, line_feed, lines_of, EndsRecord, HasWhole, PassesRecords, HasNoRecord, IsRecord}
 use Rattle.bstr.specs.Records.{records}
-use Rattle.std.specs.Io.BufRead.{take_through, DropsThrough}
-use Rattle.std.proofs.BufReadLemmas.{take_through_nonempty}
-use Rattle.bstr.proofs.lemmas.RecordLemmas.{records-step, records-nil}
+use Rattle.std.specs.Io.{StartsWith}
+use Rattle.std.specs.Io.BufRead.{take_through, DropsConsumable, DropsThrough}
+use Rattle.std.proofs.BufReadLemmas.{Consumes_shown, take_through_nonempty}
+use Rattle.bstr.proofs.lemmas.RecordLemmas.{records-at, records-step, records-nil}
 use Rattle.std.proofs.lemmas.List.Folds.{concat-append}
-use Rattle.std.specs.Io.KnownBytes.{Consumes}
+use Rattle.std.specs.Io.KnownBytes.{Consumes, Keeps}
 use Rattle.memchr.proofs.lemmas.CallerLemmas.{length-places}
 use Rattle.text_lines.specs.declared.passed.Passed.{Passed}
 
@@ -63,6 +64,13 @@ pub takes-record : (end : ℕ) (before left : Option (List ℕ)) (line : List �
     → IfSome before (λ text. line ≡ take_through end text) → DropsThrough before left end
     → TakesRecord end before left line
 takes-record end before left line some takes drops = grind (arith, common_steps, records-step, take_through_nonempty)
+
+-- what a reader has left, if `fill_buf` was called before
+pub if-kept : (P : List ℕ → Type 0) (before filled : Option (List ℕ)) → Keeps before filled → IfSome filled P
+    → IfSome before P
+if-kept P None filled keeps holds = tt
+if-kept P (Some text) None keeps holds = absurd keeps
+if-kept P (Some text) (Some kept) keeps holds = subst P keeps holds
 
 -- the first line of the text was taken from the reader
 pub first-line : (before : Option (List ℕ)) (text : List ℕ) → before ≡ Some text → (left : Option (List ℕ))
@@ -130,6 +138,39 @@ module _ (end : ℕ) where
   pub records-counted : (text : List ℕ) → EndsRecord end text
       → length (records end text) ≡ count_by (is_byte end) text
   records-counted text ends = grind (arith, common_steps, records-nil, ends-counted, ends)
+
+  -- a text up to its first end is a record
+  pub first-is-record : (text : List ℕ) (k : ℕ) → k < length text
+      → ((j : ℕ) → j < k → ¬ Passes (is_byte end) text j) → Passes (is_byte end) text k
+      → IsRecord end (take (k + 1) text)
+  first-is-record text k within before here = λ rest.
+      let front = take (k + 1) text in
+      let long : length front ≡ k + 1 = length-take-le (k + 1) text (omega arith) in
+      let reads : (j : ℕ) → j < k + 1 → slice_index front j ≡ slice_index text j =
+      λ j less. get_or-take (k + 1) text j 0 less in
+      rw (take_all (k + 1) front (omega arith), drop_of_length-le front {i = k + 1} (omega arith)) at
+      (records-at end front rest k (omega arith)
+      (λ j less same. before j less (eq-eqb _ end (sym (reads j (omega arith)) ∙ same)))
+      (reads k (omega arith) ∙ eqb-true _ end here))
+
+  takes-whole : (before left : Option (List ℕ)) (line : List ℕ) → IsRecord end line → Consumes before left line
+      → TakesRecord end before left line
+  takes-whole before left line whole consumes = grind (arith, common_steps, whole)
+
+  -- `fill_buf` showed these bytes, and the record at their start was consumed
+  pub takes-shown : (before filled left : Option (List ℕ)) (limit : Option ℕ) (shown : List ℕ) (n : ℕ)
+      → n ≤ length shown → IsRecord end (take n shown) → IfSome before (λ text. StartsWith text shown)
+      → IfSome before (λ text. length shown ≡ 0 → text ≡ []) → Keeps before filled
+      → IfSome before (λ _. IfSome limit (λ k. length shown ≤ k)) → DropsConsumable filled left limit n
+      → TakesRecord end before left (take n shown)
+  takes-shown before filled left limit shown n within whole front ends keeps fits drops =
+      takes-whole before left (take n shown) whole
+      (Consumes_shown before filled left limit shown n within front ends keeps fits drops).0
+
+  -- `fill_buf` showed nothing
+  pub none-shown : (before : Option (List ℕ)) (shown : List ℕ) → length shown ≡ 0
+      → IfSome before (λ text. length shown ≡ 0 → text ≡ []) → HasNoRecord end before
+  none-shown before shown none ends = grind (arith, common_steps, records-nil, none)
 
 module _ (end : ℕ) (bytes : List ℕ) where
   -- no bytes that are wanted are in the text before an offset

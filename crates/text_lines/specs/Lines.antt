@@ -37,6 +37,10 @@ pub record AreFirstRecords (end : ℕ) (text : List ℕ) (left : Option (List �
   pub left_is : left ≡ Some rest
   pub lines_are : records end text ≡ lines ++ records end rest
 
+-- these bytes are one record, whatever comes after them
+abbrev pub IsRecord : ℕ → List ℕ → Type 0
+IsRecord end line = (rest : List ℕ) → records end (line ++ rest) ≡ line ∷ records end rest
+
 -- if the bytes of the reader are known, this record was taken from it
 abbrev pub TakesRecord : ℕ → Option (List ℕ) → Option (List ℕ) → List ℕ → Type 0
 TakesRecord end before left line = IfSome before (λ text. AreFirstRecords end text left (line ∷ []))

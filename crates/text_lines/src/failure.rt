@@ -25,7 +25,8 @@ pub enum Failure {
 }
 
 impl Failure {
-    ghost use Rattle.std.specs.Prelude.{◌≡◌};
+    ghost use Rattle.std.specs.Prelude.{◌≡◌, IfErr, IsOk};
+    ghost use Rattle.std.specs.IoError.{error_kind};
     ghost use Rattle.text_lines.specs.Lines.{IsOfReading, is_of_input};
 
     /// Returns why the line of this number, from 1, could not be read: the input, or the memory for the line.
@@ -36,6 +37,18 @@ impl Failure {
             Failure::Line(number)
         } else {
             Failure::Read(error)
+        }
+    }
+
+    /// Fails as `of_reading` does, unless a signal interrupted the read, which is then tried again.
+    pub fn unless_interrupted(error: io::Error, number: u64) -> Result<(), Failure>
+        ensures again { IsOk result → error_kind error ≡ ErrorKind.Interrupted }
+        ensures failed { IfErr result (IsOfReading number) }
+    {
+        if error.kind() == ErrorKind::Interrupted {
+            Ok(())
+        } else {
+            Err(Failure::of_reading(error, number))
         }
     }
 

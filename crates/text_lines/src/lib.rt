@@ -2,6 +2,7 @@
 #![tactic(auto)]
 
 pub mod failure;
+pub mod held;
 pub mod line;
 pub mod passed;
 pub mod stream;

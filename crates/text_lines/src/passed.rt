@@ -5,7 +5,7 @@ ghost use Rattle.text_lines.specs.Lines.{EndsRecord, HasWhole, IsOfReading, Pass
 
 use crate::failure::Failure;
 use memchr::{memchr_iter, memmem, memrchr};
-use std::io::{BufRead, Error, ErrorKind};
+use std::io::BufRead;
 
 /// How many records were passed, and how many bytes they have.
 #[derive(Clone, Copy, Debug, PartialEq, Eq)]
@@ -35,22 +35,13 @@ pub fn pass_records<R: BufRead>(
     let held = match input.fill_buf() {
         Ok(held) => held,
         Err(error) => {
-            // The next read is tried again.
-            return if is_interrupted(&error) {
-                Ok(NONE)
-            } else {
-                Err(Failure::of_reading(error, number))
-            };
+            Failure::unless_interrupted(error, number)?;
+            return Ok(NONE);
         }
     };
     let passed = first_without(held, end, bytes);
     input.consume(passed.len);
     Ok(passed)
-}
-
-/// Returns whether a signal interrupted the read.
-fn is_interrupted(error: &Error) -> bool {
-    error.kind() == ErrorKind::Interrupted
 }
 
 /// Returns how many whole records at the start of the text are before the first one in which these bytes occur.

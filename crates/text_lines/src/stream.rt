@@ -47,10 +47,14 @@ pub fn read_record<R: BufRead>(
     }
 }
 
-/// Writes these bytes. Fails if the output cannot be written.
+/// Writes these bytes, if there are any. Fails if the output cannot be written.
+#[inline]
 pub fn write_bytes<W: Write>(out: &mut W, bytes: &[u8]) -> Result<(), Failure>
     ensures { OnOk result (Appends (W.contents out.old) (W.contents out.new) bytes.now) }
 {
+    if bytes.is_empty() {
+        return Ok(());
+    }
     match out.write_all(bytes) {
         Ok(()) => Ok(()),
         Err(error) => Err(Failure::Write(error)),
