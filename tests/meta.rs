@@ -14,6 +14,7 @@ mod samples;
 mod sets;
 mod starts;
 mod templates;
+mod terminators;
 mod texts;
 mod whole;
 mod windows;

@@ -3,7 +3,11 @@ ghost use Rattle.std.specs.Prelude.{◌≡◌, ◌⊎◌, ◌≤◌, ◌<◌, �
 ghost use Rattle.regex_hir.specs.Re.{Re};
 ghost use Rattle.regex_search_core.specs.Found.{found_of};
 ghost use Rattle.regex_search_core.specs.PatternSets.{number_of};
+ghost use Rattle.regex_search_core.specs.Search.{search_of};
 ghost use Rattle.nfa_engines.specs.Lists.{IsInside};
+ghost use Rattle.nfa_engines.specs.Paths.{IsFindAnswer};
+ghost use Rattle.nfa_meta.specs.ChoiceState.{kind_in};
+ghost use Rattle.nfa_meta.specs.RegexState.{KeepsRegex};
 ghost use Rattle.nfa_compiler.specs.Compiled.{AreMeant};
 ghost use Rattle.nfa_compiler.specs.Rejected.{TextsFitIn};
 ghost use Rattle.nfa_compiler.specs.Written.{byte_syntax};
@@ -127,7 +131,7 @@ impl<'r> Lexer<'r> {
         let input = Input::new(text)
             .range(at..text.len())
             .anchored(Anchored::Yes);
-        self.regex.find(input)
+        find(&mut self.regex, input)
     }
 
     /// Returns the match of this rule at this place, as long as the rule prefers. It may be empty.
@@ -142,7 +146,7 @@ impl<'r> Lexer<'r> {
         let input = Input::new(text)
             .range(at..text.len())
             .anchored(Anchored::Pattern(pattern));
-        self.regex.find(input)
+        find(&mut self.regex, input)
     }
 
     /// Returns the token of this rule at this place.
@@ -249,6 +253,16 @@ impl<'r> Lexer<'r> {
         }
         text.len()
     }
+}
+
+/// Returns the match of the search. All tokens are searched by this one call, so that the search is compiled into it.
+fn find(regex: &mut Regex, input: Input<'_>) -> Option<Match>
+    ensures answer { IsFindAnswer regex.old.choice.nfa (kind_in regex.old.choice) (search_of input.entry).earliest
+        (search_of input.entry) (option_map found_of result) }
+    ensures inside { IfSome result (λ m. IsInside (search_of input.entry) (found_of m)) }
+    ensures keeps { KeepsRegex regex.old regex.new }
+{
+    regex.find(input)
 }
 
 /// Returns the pattern of this number, of `count` patterns.

@@ -1,6 +1,7 @@
 //! The text of a field in a row.
 ghost use Rattle.std.specs.Prelude.{◌≡◌, ◌++◌, OnOk};
-ghost use Rattle.log_extractor.specs.Printed.{AreReadBack, HaveNoSeparator, doubled, doubled_byte, escaped, escaped_byte};
+ghost use Rattle.log_extractor.specs.Printed.{AreReadBack, HaveNoSeparator, doubled, doubled_byte, escaped};
+ghost use Rattle.log_extractor.specs.Printed.{escaped_byte};
 ghost use Rattle.log_extractor.specs.Printed.{is_special, needs_quotes, quoted_text, written};
 
 use crate::output::Form;

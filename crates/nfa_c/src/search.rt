@@ -2,7 +2,8 @@
 ghost use Rattle.std.specs.Prelude.{IfSome, IsSome, None, get_or, length, pos, ◌≡◌, ◌≢◌};
 ghost use Rattle.regex_search_core.specs.Search.{search_of};
 ghost use Rattle.nfa_choice.specs.ChoiceState.{finds_in};
-ghost use Rattle.nfa_c.specs.Answers.{AreWords, IsCaptured, IsFound, IsShortest, Keeps, search_in, shortest_in, word_of};
+ghost use Rattle.nfa_c.specs.Answers.{AreWords, IsCaptured, IsFound, IsShortest, Keeps, search_in, shortest_in};
+ghost use Rattle.nfa_c.specs.Answers.{word_of};
 ghost use Rattle.nfa_c.specs.Codes.{InRange, code_of, empty_code, range_code};
 
 use crate::codes::{EMPTY, FOUND, NONE, RANGE};

@@ -3,7 +3,7 @@
 use Rattle.thompson_nfa.specs.declared.look.Look as looks
 use Rattle.thompson_nfa.proofs.BetweenLemmas.{ascii_look, look_holds-ascii, before-some, holds_between, holds-between}
 use Rattle.nfa_paths.proofs.Common.{◌≡◌, ◌∙◌, ℕ, ◌==◌, ◌||◌, ◌≤◌, ◌<◌, ◌⊎◌, inl, inr, Bool, true, ◌++◌, false, List, length, slice_index_or, refl, sym, ap, subst, arith, lit<, Option, None, Some, option_to_list, slice_get, cases_Bool, eqb_tells, slice_get-get_or, Automaton, Node, look_holds, node_at, Look, is_word_byte, Start, End, StartLF, EndLF, StartLine, EndLine, StartCRLF, EndCRLF, WordAscii, WordAsciiNegate, WordUnicode, WordUnicodeNegate, WordStartAscii, WordEndAscii, WordStartUnicode, WordEndUnicode, WordStartHalfAscii, WordEndHalfAscii, WordStartHalfUnicode, WordEndHalfUnicode, Holding, holding_at, byte_before}
-use Rattle.nfa_lazy_dfa.specs.Assertions.{AreTerminators, HasNoLook, HasNoUnicodeWord, IsMarked, IsMarkedBy, IsRead, SameLooks, is_look, like, may_follow, plain_like, reads_bytes, sees}
+use Rattle.nfa_lazy_dfa.specs.Assertions.{AreTerminators, HasNoLook, HasNoUnicodeWord, IsLookMarked, IsRead, SameLooks, is_look, like, may_follow, plain_like, reads_bytes, sees}
 
 -- between two bytes there are these two
 
@@ -164,7 +164,7 @@ module _ (marks : List Bool) (b : ℕ) where
   like-word : is_word_byte (like marks b) ≡ is_word_byte b
   like-word = like-tells is_word_byte (plain-tells b).2
 
-  like-between : (after : Option ℕ) (look : looks.Look) → IsMarked marks look
+  like-between : (after : Option ℕ) (look : looks.Look) → IsLookMarked marks look
       → holds_between look (Some (like marks b)) after ≡ holds_between look (Some b) after
   like-between after Start marked = refl
   like-between after End marked = refl
@@ -229,6 +229,11 @@ module _ (nfa : Automaton) where
         | inr other ↦ inr (subst (λ (x : ℕ). x < 128) (sym other.0) (plain-small b))
       ]
 
+  marked-look : (marks : List Bool) → AreTerminators nfa marks → (s : ℕ) (look : looks.Look) (next : ℕ)
+      → node_at nfa s ≡ Look look next → IsLookMarked marks look
+  marked-look marks are s (StartLine t) next e = are.marked s t next e
+  marked-look marks are s _ next e = tt
+
   pub same-like : (marks : List Bool) → AreTerminators nfa marks → (b : ℕ) (after : Option ℕ)
       → IsRead nfa (Some b) → IsRead nfa after
       → SameLooks nfa (sees (Some (like marks b)) after) (sees (Some b) after)
@@ -237,7 +242,7 @@ module _ (nfa : Automaton) where
         let read_like = read-like marks b read in
         let known = known-look (Some (like marks b)) after read_like next_read s look next e in
         sees-between (Some (like marks b)) after look known
-        ∙ like-between marks b after look (subst (IsMarkedBy marks) e (are.marked s))
+        ∙ like-between marks b after look (marked-look marks are s look next e)
         ∙ sym (sees-between (Some b) after look (known-look (Some b) after read next_read s look next e));
   }
 

@@ -55,18 +55,19 @@ pub record SameLooks (nfa : Automaton) (a b : Holding) : Type 0 where
   pub same : (s : ℕ) (look : looks.Look) (next : ℕ) → node_at nfa s ≡ Look look next → a look ≡ b look
 
 -- the bytes that an assertion tells from all others are marked
-abbrev pub IsMarked : List Bool → looks.Look → Type 0
-IsMarked marks (StartLine terminator) = slice_index_or marks terminator false ≡ true
-IsMarked marks _ = ⊤
+abbrev pub IsLookMarked : List Bool → looks.Look → Type 0
+IsLookMarked marks (StartLine terminator) = slice_index_or marks terminator false ≡ true
+IsLookMarked marks _ = ⊤
 
 -- if the state is an assertion, its line terminator is marked
 abbrev pub IsMarkedBy : List Bool → Node → Type 0
-IsMarkedBy marks (Look look next) = IsMarked marks look
+IsMarkedBy marks (Look look next) = IsLookMarked marks look
 IsMarkedBy marks _ = ⊤
 
 -- the line terminators of all assertions of the NFA are marked
 pub record AreTerminators (nfa : Automaton) (marks : List Bool) : Type 0 where
-  pub marked : (s : ℕ) → IsMarkedBy marks (node_at nfa s)
+  pub marked : (s terminator next : ℕ) → node_at nfa s ≡ Look (StartLine terminator) next
+      → slice_index_or marks terminator false ≡ true
 
 -- each mark stays
 abbrev pub KeepsMarks : List Bool → List Bool → Type 0

@@ -5,7 +5,8 @@ ghost use Rattle.std.specs.Prelude.{map, option_map, slice_get, vec_len};
 ghost use Rattle.regex_search_core.specs.PatternSets.{number_of};
 ghost use Rattle.nfa_lazy_dfa.specs.Capacities.{IsUsedUpBy, largest_row_memory};
 ghost use Rattle.nfa_lazy_dfa.specs.Rows as rows;
-ghost use Rattle.nfa_lazy_dfa.specs.Rows.{AllowsClears, CountsScan, IsFor, IsRowOf, KeepsOtherCounts, KeepsRows, Spends};
+ghost use Rattle.nfa_lazy_dfa.specs.Rows.{AllowsClears, CountsScan, IsFor, IsRowOf, KeepsOtherCounts, KeepsRows};
+ghost use Rattle.nfa_lazy_dfa.specs.Rows.{Spends};
 ghost use Rattle.nfa_lazy_dfa.specs.Rows.{memory_of, stances_of, stops_of};
 ghost use Rattle.nfa_lazy_dfa.specs.Stances.{hit_here, hits_here, stance_of};
 

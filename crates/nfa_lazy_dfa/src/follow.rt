@@ -156,7 +156,11 @@ pub fn before(dfa: &DFA, byte: Option<u8>) -> Option<u8>
     ensures { (after : Option ℕ) → IsRead dfa.now.nfa after
         → SameLooks dfa.now.nfa (sees result after) (sees byte after) }
 {
-    if dfa.looks { Some(like(&dfa.terminators, byte?)) } else { None }
+    if dfa.looks {
+        Some(like(&dfa.terminators, byte?))
+    } else {
+        None
+    }
 }
 
 /// A byte like this one, if these are the line terminators of assertions.

@@ -275,7 +275,63 @@ fn past_match(
     at
 }
 
-/// Goes on over cells that lead to rows with a match. Returns the position and where the cells of the row there begin.
+/// Where the cells of the next row begin, if the byte leads to a row without a match by a cell without a mark.
+#[inline(always)]
+fn over_plain(dfa: &DFA, cache: &Cache, input: &Input<'_>, at: usize, first: u32) -> Option<u32>
+    requires own { IsFor cache.now dfa.now }
+    requires inside { at < (search_of input.now).end }
+    requires whole { first % ROW_CELLS ≡ 0 }
+    requires at { IsAt dfa.now cache.now (search_of input.now) at (first / ROW_CELLS) }
+    ensures whole { IfSome result (λ next. next % ROW_CELLS ≡ 0) }
+    ensures at { IfSome result (λ next.
+        IsAt dfa.now cache.now (search_of input.now) (at + 1) (next / ROW_CELLS)) }
+{
+    let cell = read_cell(dfa, cache, input, at, first);
+    if cell >= IDLE {
+        return None;
+    }
+    Some(cell)
+}
+
+/// Whether two bytes lead from the row with a match back to it, over a row without one.
+#[inline(always)]
+fn stays_by_two(dfa: &DFA, cache: &Cache, input: &Input<'_>, at: usize, first: u32) -> bool
+    requires own { IsFor cache.now dfa.now }
+    requires late { (search_of input.now).earliest ≡ false }
+    requires inside { at + 1 < (search_of input.now).end }
+    requires whole { first % ROW_CELLS ≡ 0 }
+    requires at { IsMatchedAt dfa.now cache.now (search_of input.now) at first }
+    ensures { IsTrue result → IsMatchedAt dfa.now cache.now (search_of input.now) (at + 2) first }
+{
+    let Some(between) = over_plain(dfa, cache, input, at, first) else {
+        return false;
+    };
+    read_cell(dfa, cache, input, at + 1, between) == first + MATCHED
+}
+
+/// Goes on over pairs of bytes that lead from the row with a match back to it, as characters of two bytes do. Returns
+/// the position.
+#[inline(always)]
+fn past_pairs(dfa: &DFA, cache: &Cache, input: &Input<'_>, from: usize, first: u32) -> usize
+    requires own { IsFor cache.now dfa.now }
+    requires late { (search_of input.now).earliest ≡ false }
+    requires whole { first % ROW_CELLS ≡ 0 }
+    requires at { IsMatchedAt dfa.now cache.now (search_of input.now) from first }
+    ensures at { IsMatchedAt dfa.now cache.now (search_of input.now) result first }
+    ensures low { from ≤ result }
+{
+    let mut at = from;
+    while input.end() - at >= 2 {
+        if !stays_by_two(dfa, cache, input, at, first) {
+            return at;
+        }
+        at += 2;
+    }
+    at
+}
+
+/// Goes on over cells that lead to rows with a match, or else over pairs of bytes that lead back to the row. Returns
+/// the position and where the cells of the row there begin.
 #[inline(always)]
 pub fn pass_matches(
     dfa: &DFA,
@@ -297,7 +353,7 @@ pub fn pass_matches(
         return (from, row);
     }
     let Some(second) = over_match(dfa, cache, input, from, row) else {
-        return (from, row);
+        return (past_pairs(dfa, cache, input, from, row), row);
     };
     let mut at = past_match(dfa, cache, input, from + 1, second, row);
     let mut first = second;

@@ -81,7 +81,9 @@ fn known_scan(dfa: &DFA, cache: &Cache, input: &Input<'_>) -> Option<Option<Half
     if over {
         return Some(place.found);
     }
-    known_rest(dfa, cache, *input, place)
+    // A name of its own, so that the usual answer, above, is in no memory that the call may write.
+    let rest = known_rest(dfa, cache, *input, place);
+    rest
 }
 
 /// Where a scan begins, if a match may start and the row there is remembered.

@@ -1,6 +1,10 @@
 -- The names of a tree are those that the grammar reads in the text, and so those of each NFA of the text.
-use Rattle.nfa_paths.proofs.Common.{◌≡◌, ◌∙◌, ℕ, List, [], ◌∷◌, ◌≤◌, drop, length, Option, None, Some, sym, IsSomeAnd, chars, Automaton}
+use Rattle.nfa_paths.proofs.Common.{◌≡◌, ◌∙◌, ◌==◌, ap, ℕ, Bool, MatchBool, true, false, List, [], ◌∷◌, ◌≤◌, drop, length, Option, None, Some, sym, IsSomeAnd, chars, Automaton}
 use Rattle.nfa_compiler.proofs.CallLemmas.{groups-named}
+use Rattle.nfa_compiler.specs.Written.{syntax_of}
+use Rattle.nfa_meta.specs.Built.{IsBuiltFrom, IsCompiledBy, compiler_of}
+use Rattle.nfa_meta.specs.declared.builder.Builder.{Builder}
+use Rattle.thompson_nfa.specs.Automaton.{nfa_with_terminator}
 use Rattle.nfa_compiler.specs.Common.{Config, Re, meaning, Hir, Nested, SameCaptures, Names, group_count, read, Reads, IsCompiled, IsNamed}
 
 named-one : (own : Names) (hir : Hir) (limit : ℕ) (o : Option (Nested Re × Names))
@@ -15,9 +19,26 @@ pub names-named : (syntax : Config) (text : List ℕ) (hir : Hir) (names : Names
 unfolding Reads
 names-named syntax text hir names reads = named-one names hir syntax.nest_limit (read syntax (chars text)) reads
 
-pub groups-named-one : (syntax : Config) (text : List ℕ) (hir : Hir) (names : Names) (nfa : Automaton)
+groups-named-one : (syntax : Config) (text : List ℕ) (hir : Hir) (names : Names) (nfa : Automaton)
     → Reads syntax text hir names → IsCompiled syntax (text ∷ []) nfa → nfa.groups ≡ drop 1 names ∷ []
 groups-named-one syntax text hir names nfa reads compiled =
     compiled.groups
     ∙ groups-named syntax (text ∷ []) compiled.trees (names ∷ []) compiled.read
     (names-named syntax text hir names reads, tt)
+
+-- The groups of an NFA do not depend on its line terminator.
+pub groups-built : (b : Builder) (text : List ℕ) (hir : Hir) (names : Names) (nfa : Automaton)
+    → Reads (syntax_of (compiler_of b)) text hir names → IsBuiltFrom b (text ∷ []) nfa
+    → nfa.groups ≡ drop 1 names ∷ []
+groups-built b text hir names nfa reads = ended (b.config.line_terminator == 10)
+  where
+    of : (plain : Automaton) → IsCompiledBy b (text ∷ []) plain → plain.groups ≡ drop 1 names ∷ []
+    of plain is = groups-named-one (syntax_of (compiler_of b)) text hir names plain reads is.compiled
+
+    ended : (feed : Bool)
+        → MatchBool feed (IsCompiledBy b (text ∷ []) nfa)
+        ((plain : Automaton) × IsCompiledBy b (text ∷ []) plain
+        × (nfa ≡ nfa_with_terminator b.config.line_terminator plain))
+        → nfa.groups ≡ drop 1 names ∷ []
+    ended true is = of nfa is
+    ended false is = ap (λ (a : Automaton). a.groups) is.2 ∙ of is.0 is.1

@@ -1,6 +1,7 @@
 -- What a builder makes of the texts of patterns, and why it fails.
-use Rattle.std.specs.Prelude.{◌≡◌, ℕ, true, false, List, [], Option, None, codes, ⊤}
+use Rattle.std.specs.Prelude.{◌≡◌, ◌==◌, ℕ, MatchBool, true, false, List, [], Option, None, codes, ⊤}
 use Rattle.regex_syntax.specs.Verdict.{default_config}
+use Rattle.thompson_nfa.specs.Automaton.{nfa_with_terminator}
 use Rattle.nfa_paths.specs.Common.{Automaton, IsAutomaton, is_utf8_empty}
 use Rattle.nfa_backtrack.specs.Backtrack.{empty_cache}
 use Rattle.nfa_pikevm.specs.Engines.{cache_for}
@@ -23,6 +24,7 @@ default_settings = record {
   anchored = false;
   utf8 = true;
   nfa_size_limit = 10_485_760;
+  line_terminator = 10;
   hybrid = true;
   hybrid_cache_capacity = 16_777_216;
   backtrack_visited_capacity = None;
@@ -79,9 +81,9 @@ pub record HasNotSearched (settings : Config) (r : RegexState) : Type 0 where
   pub rows : r.rows ≡ 0
   pub steps : r.steps ≡ 0
 
--- The NFA is what the builder compiles these texts to: one that reads them by the builder's syntax, within its size
--- limit. It is in UTF-8 mode, and bound to starts, as the builder is set.
-pub record IsBuiltFrom (b : Builder) (texts : List (List ℕ)) (nfa : Automaton) : Type 0 where
+-- The NFA is what the builder's compiler makes of these texts: one that reads them by the builder's syntax, within its
+-- size limit. It is in UTF-8 mode, and bound to starts, as the builder is set. A line feed ends a line.
+pub record IsCompiledBy (b : Builder) (texts : List (List ℕ)) (nfa : Automaton) : Type 0 where
   pub compiled : IsCompiled (syntax_of (compiler_of b)) texts nfa
   pub valid : IsAutomaton nfa
   pub utf8 : nfa.utf8 ≡ b.config.utf8
@@ -90,6 +92,17 @@ pub record IsBuiltFrom (b : Builder) (texts : List (List ℕ)) (nfa : Automaton)
   pub free : b.config.anchored ≡ false → FindsFromAnyStart nfa
   pub anywhere : b.config.utf8 ≡ false → is_utf8_empty nfa ≡ false
   pub fits : TextsFitIn b.config.nfa_size_limit (syntax_of (compiler_of b)) texts
+
+-- This is true of the NFA; or it is true of an NFA that differs only by its line terminator, which is this byte here
+-- and a line feed there.
+abbrev pub HasLines : ℕ → (Automaton → Type 0) → Automaton → Type 0
+HasLines terminator Is nfa =
+    MatchBool (terminator == 10) (Is nfa)
+    ((plain : Automaton) × Is plain × (nfa ≡ nfa_with_terminator terminator plain))
+
+-- The NFA is what the builder makes of these texts: that of its compiler, with the builder's line terminator.
+abbrev pub IsBuiltFrom : Builder → List (List ℕ) → Automaton → Type 0
+IsBuiltFrom b texts nfa = HasLines b.config.line_terminator (IsCompiledBy b texts) nfa
 
 -- the error is not that allocation failed
 abbrev pub IsNotMemory : CompileError → Type 0

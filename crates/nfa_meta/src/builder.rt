@@ -7,6 +7,7 @@ ghost use Rattle.nfa_meta.specs.Built.{default_settings, regex_of};
 ghost use Rattle.nfa_meta.specs.RegexState.{row_capacity};
 
 mod flags;
+mod lines;
 mod names;
 mod one_pass;
 mod texts;
@@ -22,7 +23,7 @@ use std::alloc::Global;
 pub(crate) use texts::Texts;
 use thompson_nfa::NFA;
 
-/// The settings of a regex. The first three are those of its NFA, if it is compiled from texts. The others change what
+/// The settings of a regex. The first four are those of its NFA, if it is compiled from texts. The others change what
 /// searches cost, and never what they return.
 #[derive(Clone, Copy, Debug)]
 pub struct Config {
@@ -32,6 +33,8 @@ pub struct Config {
     pub utf8: bool,
     /// The most bytes that the tables of one pattern may take: see [`Config::nfa_size_limit`].
     pub nfa_size_limit: usize,
+    /// The byte that ends a line for `^` and `$` in multi-line mode: see [`Config::line_terminator`].
+    pub line_terminator: u8,
     /// Whether searches begin with a lazy DFA.
     pub hybrid: bool,
     /// The most bytes that the rows of the lazy DFA may take: see [`Config::hybrid_cache_capacity`].
@@ -61,6 +64,7 @@ impl Config {
             anchored: false,
             utf8: true,
             nfa_size_limit: 10 << 20,
+            line_terminator: b'\n',
             hybrid: true,
             hybrid_cache_capacity: 16 << 20,
             backtrack_visited_capacity: None,
@@ -305,7 +309,7 @@ impl Builder {
         ensures engines { IfOk result (HasNotSearched self.now.config) }
         ensures why { IfErr result (IsWhyNotBuilt self.now (map (λ text. text.now) patterns.now)) }
     {
-        let nfa = self.compiler().build_many(alloc, patterns)?;
+        let nfa = self.compile(alloc, patterns)?;
         match self.build_with_texts(alloc, nfa, patterns) {
             Ok(regex) => Ok(regex),
             Err(_) => Err(BuildError::Memory),

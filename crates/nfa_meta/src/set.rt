@@ -69,7 +69,7 @@ impl Builder {
         ensures engines { IfOk result (IsNewSet self.now.config) }
         ensures why { IfErr result (IsWhyNotBuilt self.now (map (λ text. text.now) patterns.now)) }
     {
-        let nfa = self.compiler().build_many(alloc, patterns)?;
+        let nfa = self.compile(alloc, patterns)?;
         let Ok(texts) = Texts::of(alloc, patterns) else {
             return Err(BuildError::Memory);
         };

@@ -33,5 +33,13 @@ fn find_in(part: &[u8], prefix: &[u8]) -> Option<usize>
     if prefix.len() == 1 {
         return memchr(prefix[0], part);
     }
+    find_text(part, prefix)
+}
+
+/// The same, for a prefix of other than one byte. A call of its own, so that a search for one byte saves no registers.
+#[inline(never)]
+fn find_text(part: &[u8], prefix: &[u8]) -> Option<usize>
+    ensures { FindsNeedle part.now prefix.now 0 result }
+{
     memmem::find(part, prefix)
 }

@@ -75,6 +75,7 @@ impl Levels {
     /// at `end`. Returns `None` if no match may start from there on.
     ///
     /// Requires that `end` is not past the end of the haystack.
+    #[inline(never)]
     pub fn first_start(&self, haystack: &[u8], from: usize, end: usize) -> Option<usize>
         requires { end ≤ length haystack.now }
         ensures nowhere { IfNone result (AdmitsNoneFrom self.now haystack.now from end) }

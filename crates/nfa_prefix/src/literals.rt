@@ -99,8 +99,6 @@ impl Literals {
         bytes_may_be_skipped();
         starts_without_prefix_may_be_passed();
         no_match_without_prefix();
-        starts_without_required_bytes_may_be_passed();
-        no_match_without_required_bytes();
         let (haystack, end) = (input.haystack(), input.end());
         if let Some(levels) = &self.levels {
             return levels.first_start(haystack, from, end);
@@ -108,6 +106,25 @@ impl Literals {
         if !self.prefix.is_empty() {
             return find_prefix(haystack, from, end, &self.prefix);
         }
+        self.next_begin(nfa, input, from)
+    }
+
+    /// Returns such a position, as far as the first bytes and the required ones say. A call of its own, so that a
+    /// search for a prefix saves no registers.
+    #[inline(never)]
+    fn next_begin(&self, nfa: &NFA, input: &Input<'_>, from: usize) -> Option<usize>
+        requires of { AreLiteralsOf nfa.now self.now }
+        requires unbound { IsUnbound nfa.now (search_of input.now) }
+        requires first { IsFirstStart nfa.now (search_of input.now) from }
+        requires within { from ≤ (search_of input.now).end + 1 }
+        ensures nothing { IfNone result (MatchesNothing nfa.now (search_of input.now)) }
+        ensures first { IfSome result (IsFirstStart nfa.now (search_of input.now)) }
+        ensures within { IfSome result (λ at. at ≤ (search_of input.now).end + 1) }
+    {
+        bytes_may_be_skipped();
+        starts_without_required_bytes_may_be_passed();
+        no_match_without_required_bytes();
+        let (haystack, end) = (input.haystack(), input.end());
         let at = self.first.next(haystack, from, end);
         match &self.required {
             Some(required) => required.first_start(haystack, at, end),

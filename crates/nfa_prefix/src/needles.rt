@@ -1,5 +1,6 @@
 //! Texts of one length, one of which each match begins with, and a search for them.
-ghost use Rattle.std.specs.Prelude.{◌≡◌, ◌+◌, ◌++◌, ◌∷◌, [], ◌<◌, ◌≤◌, ℕ, IfOk, IfSome, List, MatchOption, OnOk, length};
+ghost use Rattle.std.specs.Prelude.{◌≡◌, ◌+◌, ◌++◌, ◌∷◌, [], ◌<◌, ◌≤◌, ℕ, IfOk, IfSome, List, MatchOption, OnOk};
+ghost use Rattle.std.specs.Prelude.{length};
 ghost use Rattle.regex_literal.specs.ByteSets.{IsInSet};
 ghost use Rattle.regex_literal.specs.Find.{AnyOccursAt, NoneBefore, Nowhere, OccursAt};
 ghost use Rattle.regex_literal.specs.Levels.{FitsLevels};

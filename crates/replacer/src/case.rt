@@ -1,6 +1,7 @@
 //! The case of the letters that are put in place of a match.
 ghost use Rattle.std.specs.Prelude.{◌≡◌, ◌++◌, IfOk, OnOk, true};
-ghost use Rattle.replacer.specs.Cased.{after_byte, after_escape, cased, cased_byte, casing_after, in_case, or_case, uncased};
+ghost use Rattle.replacer.specs.Cased.{after_byte, after_escape, cased, cased_byte, casing_after, in_case, or_case};
+ghost use Rattle.replacer.specs.Cased.{uncased};
 
 use std::alloc::AllocError;
 

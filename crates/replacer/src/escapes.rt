@@ -1,6 +1,7 @@
 //! The escapes of a template: what a person types for a byte or a character that is hard to type, and for the case of
 //! letters.
-ghost use Rattle.std.specs.Prelude.{◌≡◌, ◌<◌, ◌≤◌, ◌+◌, ◌^◌, ◌++◌, ℕ, None, Some, IfErr, IfOk, IfSome, OnOk, encode_utf8, flat_map, length};
+ghost use Rattle.std.specs.Prelude.{◌≡◌, ◌<◌, ◌≤◌, ◌+◌, ◌^◌, ◌++◌, ℕ, None, Some, IfErr, IfOk, IfSome, OnOk};
+ghost use Rattle.std.specs.Prelude.{encode_utf8, flat_map, length};
 ghost use Rattle.std.specs.Prelude.{slice_index, slice_range};
 ghost use Rattle.std.specs.Char.{IsScalar, digit_value};
 ghost use Rattle.replacer.specs.Escapes.{AreDigits, AreSigns, Escapes, Has, HasTwoDigits, IsBadEscape, IsSign};

@@ -1,7 +1,8 @@
 //! The regex that searches for patterns.
 ghost use Rattle.std.specs.Prelude.{◌≡◌, IfErr, IfOk, map, string_bytes};
 ghost use Rattle.replacer.specs.Hits.{IsSearchOf};
-ghost use Rattle.replacer.specs.Printed.{AreFixedTexts, IsFixedText, IsPatternMistake, escaped, pattern_mistake, sought};
+ghost use Rattle.replacer.specs.Printed.{AreFixedTexts, IsFixedText, IsPatternMistake, escaped, pattern_mistake};
+ghost use Rattle.replacer.specs.Printed.{sought};
 
 use crate::command::Request;
 use crate::job::Mistake;

@@ -1,5 +1,6 @@
 //! The names of the groups of a pattern, as its text gives them.
-ghost use Rattle.std.specs.Prelude.{◌≡◌, ◌∷◌, [], IfErr, IfOk, None, Some, drop, map, option_map, slice_get, string_bytes};
+ghost use Rattle.std.specs.Prelude.{◌≡◌, ◌∷◌, [], IfErr, IfOk, None, Some, drop, map, option_map, slice_get};
+ghost use Rattle.std.specs.Prelude.{string_bytes};
 ghost use Rattle.nfa_paths.specs.Common.{Automaton};
 ghost use Rattle.nfa_compiler.specs.Compiled.{IsNamed};
 ghost use Rattle.nfa_compiler.specs.Written.{syntax_of};

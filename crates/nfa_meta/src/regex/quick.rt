@@ -23,8 +23,8 @@ impl Regex {
         self.quick_at(input, at)
     }
 
-    /// Returns a start before which nothing matches, and at which the search matches if it goes as the last one: the one
-    /// that the literals name, or else the first one.
+    /// Returns a start before which nothing matches, and at which the search matches if it goes as the last one: the
+    /// one that the literals name, or else the first one.
     #[inline(always)]
     fn likely_start(&self, input: &Input<'_>) -> Option<usize>
         ensures anywhere { IfSome result (λ _. StartsAnywhere self.now.choice.nfa (search_of input.now)) }

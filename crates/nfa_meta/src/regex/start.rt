@@ -45,8 +45,8 @@ impl Regex {
         at
     }
 
-    /// Returns the first position of the span whose byte a match may begin with, or its end. Returns `None` if that is not
-    /// near the start, or inside a codepoint.
+    /// Returns the first position of the span whose byte a match may begin with, or its end. Returns `None` if that is
+    /// not near the start, or inside a codepoint.
     #[inline(always)]
     pub(super) fn first_begin(&self, input: &Input<'_>) -> Option<usize>
         ensures first { IfSome result (IsFirstStart self.now.choice.nfa (search_of input.now)) }

@@ -173,7 +173,8 @@ impl Regex {
         found
     }
 
-    /// Returns the match of the search, which may be at another start than the first one, and notes whether it is there.
+    /// Returns the match of the search, which may be at another start than the first one, and notes whether it is
+    /// there.
     // A call of its own, so that a match at the first start costs no large frame.
     #[inline(never)]
     fn find_past_first(&mut self, input: &Input<'_>) -> Option<Match>
@@ -220,8 +221,8 @@ impl Regex {
         }
     }
 
-    /// Returns the match of a search that may start anywhere, if the lazy DFA finds it at one of the first starts. Returns
-    /// `Some(None)` if nothing matches.
+    /// Returns the match of a search that may start anywhere, if the lazy DFA finds it at one of the first starts.
+    /// Returns `Some(None)` if nothing matches.
     pub(super) fn find_by_dfa<'h>(&mut self, input: Input<'h>) -> Option<Option<Match>>
         ensures answer { let x = search_of input.entry in IfSome result (λ found.
             IsFindAnswer self.old.choice.nfa (kind_in self.old.choice) x.earliest x (option_map found_of found)) }
@@ -239,8 +240,8 @@ impl Regex {
         }
     }
 
-    /// Returns the match of a search that has windows, if the lazy DFA finds it at one of the first starts: it scans to the
-    /// first end of a match, and not on to the end of this one. Returns `Some(None)` if nothing matches.
+    /// Returns the match of a search that has windows, if the lazy DFA finds it at one of the first starts: it scans to
+    /// the first end of a match, and not on to the end of this one. Returns `Some(None)` if nothing matches.
     fn find_from_first_end<'h>(&mut self, input: Input<'h>) -> Option<Option<Match>>
         requires windowed { IsWindowed self.old.choice.nfa (search_of input) }
         ensures answer { let x = search_of input.entry in IfSome result (λ found.
@@ -270,8 +271,8 @@ impl Regex {
         }
     }
 
-    /// Scans a search that has windows to the first end of a match. Returns a position near its start before which nothing
-    /// matches. Returns `None` in it if nothing matches.
+    /// Scans a search that has windows to the first end of a match. Returns a position near its start before which
+    /// nothing matches. Returns `None` in it if nothing matches.
     fn first_end<'h>(&mut self, input: Input<'h>) -> Result<Option<usize>, NoWindow>
         requires windowed { IsWindowed self.old.choice.nfa (search_of input) }
         ensures nothing { IfOk result (λ at.
@@ -294,8 +295,8 @@ impl Regex {
         }
     }
 
-    /// Returns the match of a search that may start anywhere, in UTF-8 mode of an NFA that can match the empty string, if
-    /// the lazy DFA finds it at one of the first starts of its window. Returns `Some(None)` if nothing matches.
+    /// Returns the match of a search that may start anywhere, in UTF-8 mode of an NFA that can match the empty string,
+    /// if the lazy DFA finds it at one of the first starts of its window. Returns `Some(None)` if nothing matches.
     fn find_from_window<'h>(&mut self, input: Input<'h>) -> Option<Option<Match>>
         ensures answer { let x = search_of input.entry in IfSome result (λ found.
             IsFindAnswer self.old.choice.nfa (kind_in self.old.choice) x.earliest x (option_map found_of found)) }
@@ -318,8 +319,8 @@ impl Regex {
         }
     }
 
-    /// Returns the match of a search, if the lazy DFA finds it at one of the first starts from one on before which nothing
-    /// matches.
+    /// Returns the match of a search, if the lazy DFA finds it at one of the first starts from one on before which
+    /// nothing matches.
     fn find_from<'h>(&mut self, input: Input<'h>, from: usize) -> Option<Match>
         requires anywhere { StartsAnywhere self.old.choice.nfa (search_of input) }
         requires last { (search_of input).earliest ≡ false }

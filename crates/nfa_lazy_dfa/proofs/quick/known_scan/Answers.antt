@@ -8,7 +8,7 @@ returns-then-over c =
     next-over c.args.dfa.now (search_of c.args.input.now) c.args.cache.now c.direct-over.result.0
     c.direct-over.result.1 c.direct-over.ensures.next c.if-over.true
 
-pub known_rest-requires-clause-at : goal.known_rest-requires-clause-at
-known_rest-requires-clause-at c =
+pub known_rest-rest-requires-clause-at : goal.known_rest-rest-requires-clause-at
+known_rest-rest-requires-clause-at c =
     next-on c.args.dfa.now (search_of c.args.input.now) c.args.cache.now c.direct-over.result.0
     c.direct-over.result.1 c.direct-over.ensures.next c.if-over.false

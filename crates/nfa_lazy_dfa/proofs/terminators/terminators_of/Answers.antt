@@ -8,7 +8,7 @@ use Rattle.nfa_lazy_dfa.proofs.terminators.terminators_of.Goals as goal
 -- what is marked stays so
 marked-kept : (old new : List Bool) → KeepsMarks old new → (node : Node) → IsMarkedBy old node → IsMarkedBy new node
 marked-kept old new keeps (Look (StartLine t) next) marked = keeps t marked
-marked-kept old new keeps _ marked = search (marked)
+marked-kept old new keeps _ marked = tt
 
 marked-at : (nfa : Automaton) (marks : List Bool) (states : List State) → map node_of states ≡ nfa.states
     → ((j : ℕ) (d : State) → j < length states → IsMarkedBy marks (node_of (get_or states j d)))
@@ -43,6 +43,8 @@ loop-state-preserved c =
 
 pub returns : goal.returns
 returns c = record {
-  marked = marked-at c.args.nfa.now c.loop-state.marks c.states-state-items.result.now c.states-state-items.ensures.nodes
-      (λ j d less. c.loop-state.invariant j d (omega arith));
+  marked = λ s t next e.
+      subst (IsMarkedBy c.loop-state.marks) e
+      (marked-at c.args.nfa.now c.loop-state.marks c.states-state-items.result.now c.states-state-items.ensures.nodes
+      (λ j d less. c.loop-state.invariant j d (omega arith)) s);
 }

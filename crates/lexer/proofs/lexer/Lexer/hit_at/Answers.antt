@@ -27,4 +27,4 @@ returns-clause-hit c = λ res meant.
     c.args.at c.requires _ (subst Answers same c.find.ensures.answer)
 
 pub invariant_of-self : goal.invariant_of-self
-invariant_of-self c = regex-kept _ c.self.inside.regex c.find.new.self c.self.invariant c.find.ensures.keeps
+invariant_of-self c = regex-kept _ c.self.inside.regex c.find.new.regex c.self.invariant c.find.ensures.keeps

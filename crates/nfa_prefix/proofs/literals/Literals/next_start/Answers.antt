@@ -1,22 +1,9 @@
--- No match starts before the bytes that each match begins with, or may begin with, or before the line of a byte that
--- each match has.
+-- No match starts before the bytes that each match begins with.
 use Rattle.nfa_paths.proofs.Common.{◌<◌, ◌≤◌, All, IfSome, arith, length, search_of, subst}
-use Rattle.nfa_engines.specs.StartLaws.{IsFirstStart}
 use Rattle.nfa_prefix.specs.Levels.{AdmitsMatches}
-use Rattle.nfa_prefix.specs.RequiredBytes.{IsRequired}
-use Rattle.nfa_prefix.proofs.FewLemmas.{none-then, others-passed, some-then}
+use Rattle.nfa_prefix.proofs.FewLemmas.{none-then, some-then}
 use Rattle.nfa_prefix.proofs.LevelLemmas.{first-to-admitted, nothing-admitted}
 use Rattle.nfa_prefix.proofs.literals.Literals.next_start.Goals as goal
-
-pub returns-in-None-clause-first : goal.returns-in-None-clause-first
-returns-in-None-clause-first c =
-    let x = search_of c.args.input.now in
-    let fits : c.args.input.now.span.end ≤ length c.args.input.now.haystack.now = omega arith in
-    let small : All (λ b. b < 256) x.haystack = rw c.haystack-haystack.ensures at c.next-at.ensures.bytes in
-    others-passed c.args.nfa.now x c.args.self.now.first c.args.from c.next-at.result
-    c.bytes_may_be_skipped.ensures.nothing c.requires.of.among fits small c.requires.first c.next-at.ensures.onward
-    (rw c.end-end.ensures.value at c.next-at.ensures.within)
-    (rw c.haystack-haystack.ensures at c.next-at.ensures.lacks)
 
 pub returns-then-not-is_empty-clause-nothing : goal.returns-then-not-is_empty-clause-nothing
 returns-then-not-is_empty-clause-nothing c =
@@ -37,42 +24,6 @@ returns-then-not-is_empty-clause-first c =
     c.requires.of.begins c.requires.first here)
     (rw c.haystack-haystack.ensures at (rw c.end-end.ensures.value at (rw c.deref.ensures.value at
     c.find_prefix.ensures.first)))
-
-pub returns-in-Some-required-clause-nothing : goal.returns-in-Some-required-clause-nothing
-returns-in-Some-required-clause-nothing c =
-    let nfa = c.args.nfa.now in
-    let x = search_of c.args.input.now in
-    let fits : c.args.input.now.span.end ≤ length c.args.input.now.haystack.now = omega arith in
-    let small : All (λ b. b < 256) x.haystack = rw c.haystack-haystack.ensures at c.next-at.ensures.bytes in
-    let first : IsFirstStart nfa x c.next-at.result =
-    others-passed c.args.nfa.now x c.args.self.now.first c.args.from c.next-at.result
-    c.bytes_may_be_skipped.ensures.nothing c.requires.of.among fits small c.requires.first c.next-at.ensures.onward
-    (rw c.end-end.ensures.value at c.next-at.ensures.within)
-    (rw c.haystack-haystack.ensures at c.next-at.ensures.lacks) in
-    let required : IsRequired nfa c.in-Some-required.required =
-    subst (λ o. IfSome o (IsRequired nfa)) c.in-Some-required.is c.requires.of.has in
-    none-then c.first_start-in-Some-required.result
-    (λ lacks. c.no_match_without_required_bytes.ensures nfa x c.in-Some-required.required c.next-at.result
-    c.requires.unbound required first lacks)
-    (rw c.haystack-haystack.ensures at (rw c.end-end.ensures.value at c.first_start-in-Some-required.ensures.nowhere))
-
-pub returns-in-Some-required-clause-first : goal.returns-in-Some-required-clause-first
-returns-in-Some-required-clause-first c =
-    let nfa = c.args.nfa.now in
-    let x = search_of c.args.input.now in
-    let fits : c.args.input.now.span.end ≤ length c.args.input.now.haystack.now = omega arith in
-    let small : All (λ b. b < 256) x.haystack = rw c.haystack-haystack.ensures at c.next-at.ensures.bytes in
-    let first : IsFirstStart nfa x c.next-at.result =
-    others-passed c.args.nfa.now x c.args.self.now.first c.args.from c.next-at.result
-    c.bytes_may_be_skipped.ensures.nothing c.requires.of.among fits small c.requires.first c.next-at.ensures.onward
-    (rw c.end-end.ensures.value at c.next-at.ensures.within)
-    (rw c.haystack-haystack.ensures at c.next-at.ensures.lacks) in
-    let required : IsRequired nfa c.in-Some-required.required =
-    subst (λ o. IfSome o (IsRequired nfa)) c.in-Some-required.is c.requires.of.has in
-    some-then c.first_start-in-Some-required.result
-    (λ at lacks. c.starts_without_required_bytes_may_be_passed.ensures.moves nfa x c.in-Some-required.required
-    c.next-at.result at required first lacks)
-    (rw c.haystack-haystack.ensures at (rw c.end-end.ensures.value at c.first_start-in-Some-required.ensures.passed))
 
 pub returns-in-Some-clause-nothing : goal.returns-in-Some-clause-nothing
 returns-in-Some-clause-nothing c =
