@@ -6,18 +6,18 @@ use Rattle.log_extractor.specs.Printed.{shown_line}
 use Rattle.log_extractor.proofs.GoingLemmas.{taken-all, taken-more}
 use Rattle.log_extractor.proofs.report.print_lines.Goals as goal
 
-pub returns-in-None-clause-rows : goal.returns-in-None-clause-rows
-returns-in-None-clause-rows g c = λ ps is.
-    taken-all _ _ _ c.in_ok-row.ensures.taken (c.loop-before.invariant.looked ps is)
+pub returns-in_default-clause-rows : goal.returns-in_default-clause-rows
+returns-in_default-clause-rows g c = λ ps is.
+    taken-all _ _ _ (rw c.in_default.is at c.in_ok-row.ensures.taken) (c.loop-before.invariant.looked ps is)
 
-pub returns-in-None-clause-printed : goal.returns-in-None-clause-printed
-returns-in-None-clause-printed g c = λ ps is.
-    taken-all _ _ _ c.in_ok-row.ensures.taken (c.loop-before.invariant.printed ps is)
+pub returns-in_default-clause-printed : goal.returns-in_default-clause-printed
+returns-in_default-clause-printed g c = λ ps is.
+    taken-all _ _ _ (rw c.in_default.is at c.in_ok-row.ensures.taken) (c.loop-before.invariant.printed ps is)
 
 pub loop-before-preserved : goal.loop-before-preserved
 loop-before-preserved g c =
     let inv = c.loop-before.invariant in
-    let next = c.in-Some.ensures.taken in
+    let next = rw c.in-Some.is at c.in_ok-row.ensures.taken in
     let line = next.0 in
     record {
       printed = λ ps is.
