@@ -4,7 +4,7 @@ ghost use Rattle.std.specs.Prelude.{slice_get, string_bytes, ℕ, flat_map};
 ghost use Rattle.std.specs.Io.KnownBytes.{Appends};
 ghost use Rattle.text_lines.specs.Lines.{content, lines_of};
 ghost use Rattle.std.specs.BTreeMap.{IsOrdered};
-ghost use Rattle.log_extractor.specs.Counts.{IsCountList, IsFound, IsTally, count_head, count_of, tally_line, counted};
+ghost use Rattle.log_extractor.specs.Counts.{IsCountList, IsFound, IsTally, count_head, tally_line, counted};
 ghost use Rattle.log_extractor.specs.Counts.{entry_counted, key_cmp, value_at, value_in};
 ghost use Rattle.log_extractor.specs.Fields.{fields_now};
 ghost use Rattle.log_extractor.specs.Several.{AreLinePatterns, LabelledPattern};
@@ -174,25 +174,22 @@ fn field_at<'l>(fields: &[Option<&'l [u8]>], column: usize) -> Option<&'l [u8]>
     Some(field.unwrap_or(b""))
 }
 
-/// Returns how often the value was counted.
-fn count_of(counts: &Counts, value: &[u8]) -> u64
-    ensures { result ≡ count_of counts.now value.now }
-{
-    counts.get(value).copied().unwrap_or(0)
-}
-
-/// Counts the value once more. It is of the line of this number.
+/// Counts the value once more. It is of the line of this number. Only a value that was not counted before is copied.
 fn add(alloc: Global, counts: &mut Counts, value: &[u8], number: u64) -> Result<(), Failure>
     ensures { OnOk result ((values : List (List ℕ)) → IsTally values counts.old
         → IsTally (values ++ value.now ∷ []) counts.new) }
 {
-    let Some(next) = count_of(counts, value).checked_add(1) else {
-        return Err(Failure::TooLong);
-    };
+    if let Some(count) = counts.get_mut(value) {
+        let Some(next) = count.checked_add(1) else {
+            return Err(Failure::TooLong);
+        };
+        *count = next;
+        return Ok(());
+    }
     let Ok(key) = Vec::from_slice(alloc, value) else {
         return Err(Failure::Line(number));
     };
-    let Ok(_) = counts.insert(key, next) else {
+    let Ok(_) = counts.insert(key, 1) else {
         return Err(Failure::Line(number));
     };
     Ok(())
