@@ -1,6 +1,6 @@
 //! How often each value of a column occurs.
 ghost use Rattle.std.specs.Prelude.{◌≡◌, ◌++◌, ◌∷◌, [], IfErr, IfNone, IfOk, IfSome, List, OnOk, map, option_map};
-ghost use Rattle.std.specs.Prelude.{slice_get, string_bytes, ℕ, flat_map};
+ghost use Rattle.std.specs.Prelude.{false, slice_get, string_bytes, ℕ, flat_map};
 ghost use Rattle.std.specs.Io.KnownBytes.{Appends};
 ghost use Rattle.text_lines.specs.Lines.{content, lines_of};
 ghost use Rattle.std.specs.BTreeMap.{IsOrdered};
@@ -87,6 +87,7 @@ fn count_next<R: BufRead>(
         (ps : List LabelledPattern) → AreLinePatterns rows.old.parsers ps
         → (values : List (List ℕ)) → IsTally values counts.old
         → IsTally (values ++ value_in rows.old.selection ps column line) counts.new)) }
+    ensures ended { IfOk result (λ more. more ≡ false → counts.new ≡ counts.old) }
     ensures kept { rows.new ≡ rows.old }
 {
     let held = match input.fill_buf() {
@@ -121,6 +122,7 @@ fn count_copy<R: BufRead>(
         (ps : List LabelledPattern) → AreLinePatterns rows.old.parsers ps
         → (values : List (List ℕ)) → IsTally values counts.old
         → IsTally (values ++ value_in rows.old.selection ps column line) counts.new)) }
+    ensures ended { IfOk result (λ more. more ≡ false → counts.new ≡ counts.old) }
     ensures kept { rows.new ≡ rows.old }
 {
     let mut line = Vec::new(alloc);

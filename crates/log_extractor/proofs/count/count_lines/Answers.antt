@@ -13,7 +13,9 @@ loop-before-init g c = record {
 pub returns-then-not-branch-clause-counted : goal.returns-then-not-branch-clause-counted
 returns-then-not-branch-clause-counted g c = λ ps is values tally.
     let none : c.in_ok-count_next.field-0 ≡ false = search rules in
-    taken-all _ _ _ (rw none at c.in_ok-count_next.ensures.counted) (c.loop-before.invariant.counted ps is values tally)
+    rw (c.in_ok-count_next.ensures.ended none)
+    (taken-all _ _ _ (rw none at c.in_ok-count_next.ensures.counted)
+    (c.loop-before.invariant.counted ps is values tally))
 
 pub loop-before-preserved : goal.loop-before-preserved
 loop-before-preserved g c =

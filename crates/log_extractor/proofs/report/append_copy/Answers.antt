@@ -9,5 +9,8 @@ pub returns-clause-taken : goal.returns-clause-taken
 returns-clause-taken g c = (
   c.read_line.new.line.items,
   c.in_ok-read_line.ensures.taken (search rules),
-  λ ps is. rw c.deref.ensures.value at (c.in_ok-row.ensures.shown ps is, c.in_ok-row.ensures.row ps is),
+  λ ps is. (
+    rw c.deref.ensures.value at (c.in_ok-row.ensures.shown ps is),
+    rw c.deref.ensures.value at (c.in_ok-row.ensures.row ps is),
+  ),
 )

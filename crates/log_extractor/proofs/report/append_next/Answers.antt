@@ -1,9 +1,15 @@
 -- The record at the start of what the reader holds is the next line.
-use Rattle.std.proofs.Common.{◌≡◌, ◌∙◌, eqb-true, length, subst, sym, take}
+use Rattle.std.proofs.Common.{◌≡◌, ◌∙◌, eqb-true, is_some, length, subst, sym, take}
 use Rattle.std.specs.Io.BufRead.{FillKeeps}
 use Rattle.text_lines.specs.Lines.{line_feed}
 use Rattle.text_lines.proofs.LineLemmas.{none-shown, takes-shown}
+use Rattle.log_extractor.proofs.GoingLemmas.{result-kept}
 use Rattle.log_extractor.proofs.report.append_next.Goals as goal
+
+pub returns-in-Err-clause-taken : goal.returns-in-Err-clause-taken
+returns-in-Err-clause-taken g c =
+    result-kept (g.R.Read.remaining c.args.input.now) _ _ c.fill_buf.follows.holds-at-none.0 _ is_some
+    c.append_copy.result c.append_copy.ensures.taken
 
 pub returns-then-is_empty-clause-taken : goal.returns-then-is_empty-clause-taken
 returns-then-is_empty-clause-taken g c =
