@@ -145,6 +145,7 @@ fn search<R: BufRead, W: Write>(
 }
 
 /// Passes lines that come next, if they are not selected and not printed, and returns where the line after them is.
+#[inline(always)]
 fn pass_lines<R: BufRead>(
     grep: &Grep<'_>,
     groups: &mut Groups<'_>,
