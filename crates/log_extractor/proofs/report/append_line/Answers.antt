@@ -7,7 +7,7 @@ use Rattle.log_extractor.proofs.report.append_line.Goals as goal
 
 pub returns-clause-shown : goal.returns-clause-shown
 returns-clause-shown c = λ ps is.
-    c.in-Ok-2.ensures
+    c.in-Ok-append_shown.ensures
     ∙ ap₂ (λ cs r. c.args.out.now.items ++ shown_as c.args.output cs c.args.line.now r)
     (rw c.in-Ok.ensures.kept at (c.names.ensures ps (rw c.in-Ok.ensures.kept is)))
     (c.in-Ok.ensures.fields ps is ∙ ap (row_in c.args.rows.now.selection ps) c.content.ensures)
