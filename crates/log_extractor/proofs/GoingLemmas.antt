@@ -1,7 +1,10 @@
 -- A run over an input starts, goes on by a line, and ends.
 use Rattle.nfa_paths.proofs.Common.{◌≡◌, ◌∙◌, ℕ, List, [], ◌∷◌, ◌++◌, ap, arith, Option, Some, IfSome, flat_map, common_steps, flat_map-append}
-use Rattle.text_lines.specs.Lines.{line_feed, lines_of, HasNoRecord, TakesRecord}
-use Rattle.text_lines.proofs.LineLemmas.{records-of-parts}
+use Rattle.std.proofs.Common.{Bool, true, false, Result, Ok, Err, IfOk}
+use Rattle.std.specs.Io.KnownBytes.{Keeps}
+use Rattle.text_lines.specs.Lines.{line_feed, lines_of, AreFirstRecords, HasNoRecord, TakesRecord}
+use Rattle.text_lines.proofs.LineLemmas.{if-kept, records-of-parts}
+use Rattle.log_extractor.specs.Taken.{TakesNext}
 use Rattle.log_extractor.specs.Printed.{extracted_lines, shown_line}
 use Rattle.log_extractor.specs.Several.{LabelledPattern}
 use Rattle.log_extractor.specs.declared.output.Output.{Output}
@@ -33,6 +36,23 @@ module _ (P : List (List ℕ) → Type 0) where
   pub taken-all : (before input : Option (List ℕ)) → HasNoRecord line_feed input → Taken P before input
       → IfSome before (λ text. P (lines_of text))
   taken-all before input end taken = grind (arith, common_steps, end, taken)
+
+-- what was taken of a reader after a call of `fill_buf`
+module _ (before filled left : Option (List ℕ)) (keeps : Keeps before filled) where
+  next-kept : (Holds : List ℕ → Type 0) (more : Bool) → TakesNext filled left Holds more
+      → TakesNext before left Holds more
+  next-kept Holds true (line, is, holds) = (
+    line,
+    if-kept (λ text. AreFirstRecords line_feed text left (line ∷ [])) before filled keeps is,
+    holds,
+  )
+  next-kept Holds false none = if-kept (λ text. lines_of text ≡ []) before filled keeps none
+
+  pub result-kept : {A E : Type 0} (Holds : A → List ℕ → Type 0) (more : A → Bool) (result : Result A E)
+      → IfOk result (λ a. TakesNext filled left (Holds a) (more a))
+      → IfOk result (λ a. TakesNext before left (Holds a) (more a))
+  result-kept Holds more (Ok a) taken = next-kept (Holds a) (more a) taken
+  result-kept Holds more (Err error) taken = tt
 
 -- the same is printed of a text as of its parts
 pub printed-joined : (output : Output) (selection : Selection) (ps : List LabelledPattern) (a b : List ℕ)

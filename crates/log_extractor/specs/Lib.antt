@@ -4,3 +4,4 @@ pub mod Fields
 pub mod Printed
 pub mod Selected
 pub mod Several
+pub mod Taken

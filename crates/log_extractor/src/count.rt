@@ -1,13 +1,14 @@
 //! How often each value of a column occurs.
 ghost use Rattle.std.specs.Prelude.{◌≡◌, ◌++◌, ◌∷◌, [], IfErr, IfNone, IfOk, IfSome, List, OnOk, map, option_map};
-ghost use Rattle.std.specs.Prelude.{slice_get, string_bytes, ℕ, flat_map};
+ghost use Rattle.std.specs.Prelude.{false, slice_get, string_bytes, ℕ, flat_map};
 ghost use Rattle.std.specs.Io.KnownBytes.{Appends};
 ghost use Rattle.text_lines.specs.Lines.{content, lines_of};
 ghost use Rattle.std.specs.BTreeMap.{IsOrdered};
-ghost use Rattle.log_extractor.specs.Counts.{IsCountList, IsFound, IsTally, count_head, count_of, tally_line, counted};
+ghost use Rattle.log_extractor.specs.Counts.{IsCountList, IsFound, IsTally, count_head, tally_line, counted};
 ghost use Rattle.log_extractor.specs.Counts.{entry_counted, key_cmp, value_at, value_in};
 ghost use Rattle.log_extractor.specs.Fields.{fields_now};
 ghost use Rattle.log_extractor.specs.Several.{AreLinePatterns, LabelledPattern};
+ghost use Rattle.log_extractor.specs.Taken.{TakesNext};
 
 use crate::field::append_text;
 use crate::names::is_name;
@@ -19,6 +20,7 @@ use std::cmp::Reverse;
 use std::collections::BTreeMap;
 use std::io::{BufRead, Write};
 use text_lines::failure::Failure;
+use text_lines::held::first_record;
 use text_lines::line::content;
 use text_lines::stream::{read_line, write_bytes};
 
@@ -63,14 +65,72 @@ pub fn count_lines<R: BufRead>(
         (λ text. IsTally (values ++ flat_map (value_in rows.old.selection ps column) (lines_of text)) counts.new)) }
     ensures kept { rows.new ≡ rows.old }
 {
-    let mut line = Vec::new(alloc);
     for before in 0..u64::MAX {
-        if !read_line(input, before + 1, &mut line)? {
+        if !count_next(alloc, rows, column, input, before + 1, counts)? {
             return Ok(());
         }
-        count_one(alloc, rows, column, &line, before + 1, counts)?;
     }
     Err(Failure::TooLong)
+}
+
+/// Counts the value of the column in the row of the next line, which has this number, from 1. Returns whether there is
+/// a line. It is copied only if it is not whole in what the reader holds.
+fn count_next<R: BufRead>(
+    alloc: Global,
+    rows: &mut Rows<'_, '_>,
+    column: usize,
+    input: &mut R,
+    number: u64,
+    counts: &mut Counts,
+) -> Result<bool, Failure>
+    ensures counted { IfOk result (TakesNext (R.remaining input.old) (R.remaining input.new) (λ line.
+        (ps : List LabelledPattern) → AreLinePatterns rows.old.parsers ps
+        → (values : List (List ℕ)) → IsTally values counts.old
+        → IsTally (values ++ value_in rows.old.selection ps column line) counts.new)) }
+    ensures ended { IfOk result (λ more. more ≡ false → counts.new ≡ counts.old) }
+    ensures kept { rows.new ≡ rows.old }
+{
+    let held = match input.fill_buf() {
+        Ok(held) => held,
+        Err(error) => {
+            Failure::unless_interrupted(error, number)?;
+            return count_copy(alloc, rows, column, input, number, counts);
+        }
+    };
+    let Some(len) = first_record(held, b'\n') else {
+        if held.is_empty() {
+            return Ok(false);
+        }
+        return count_copy(alloc, rows, column, input, number, counts);
+    };
+    count_one(alloc, rows, column, &held[..len], number, counts)?;
+    input.consume(len);
+    Ok(true)
+}
+
+/// The same, of a copy of the line.
+#[inline(never)]
+fn count_copy<R: BufRead>(
+    alloc: Global,
+    rows: &mut Rows<'_, '_>,
+    column: usize,
+    input: &mut R,
+    number: u64,
+    counts: &mut Counts,
+) -> Result<bool, Failure>
+    ensures counted { IfOk result (TakesNext (R.remaining input.old) (R.remaining input.new) (λ line.
+        (ps : List LabelledPattern) → AreLinePatterns rows.old.parsers ps
+        → (values : List (List ℕ)) → IsTally values counts.old
+        → IsTally (values ++ value_in rows.old.selection ps column line) counts.new)) }
+    ensures ended { IfOk result (λ more. more ≡ false → counts.new ≡ counts.old) }
+    ensures kept { rows.new ≡ rows.old }
+{
+    let mut line = Vec::new(alloc);
+    if !read_line(input, number, &mut line)? {
+        return Ok(false);
+    }
+    count_one(alloc, rows, column, &line, number, counts)?;
+    Ok(true)
 }
 
 /// Counts the value of the column in the row of the line, if it has one. The line may have its end, and has this
@@ -116,25 +176,22 @@ fn field_at<'l>(fields: &[Option<&'l [u8]>], column: usize) -> Option<&'l [u8]>
     Some(field.unwrap_or(b""))
 }
 
-/// Returns how often the value was counted.
-fn count_of(counts: &Counts, value: &[u8]) -> u64
-    ensures { result ≡ count_of counts.now value.now }
-{
-    counts.get(value).copied().unwrap_or(0)
-}
-
-/// Counts the value once more. It is of the line of this number.
+/// Counts the value once more. It is of the line of this number. Only a value that was not counted before is copied.
 fn add(alloc: Global, counts: &mut Counts, value: &[u8], number: u64) -> Result<(), Failure>
     ensures { OnOk result ((values : List (List ℕ)) → IsTally values counts.old
         → IsTally (values ++ value.now ∷ []) counts.new) }
 {
-    let Some(next) = count_of(counts, value).checked_add(1) else {
-        return Err(Failure::TooLong);
-    };
+    if let Some(count) = counts.get_mut(value) {
+        let Some(next) = count.checked_add(1) else {
+            return Err(Failure::TooLong);
+        };
+        *count = next;
+        return Ok(());
+    }
     let Ok(key) = Vec::from_slice(alloc, value) else {
         return Err(Failure::Line(number));
     };
-    let Ok(_) = counts.insert(key, next) else {
+    let Ok(_) = counts.insert(key, 1) else {
         return Err(Failure::Line(number));
     };
     Ok(())

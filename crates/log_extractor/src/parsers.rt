@@ -143,20 +143,22 @@ fn row_by<'l, 'p: 'l>(
     let Some(fields) = labelled.parser.parse_line(line)? else {
         return Ok(None);
     };
-    let mut row = label_field(alloc, several, labelled.label)?;
+    let room = names.len().saturating_add(1);
+    let mut row = label_field(alloc, several, labelled.label, room)?;
     push_fields(names, labelled.parser.columns(), &fields, &mut row)?;
     Ok(Some(row))
 }
 
-/// Returns the field of the label, if there are several parsers.
+/// Returns the field of the label, if there are several parsers, with room for this many fields.
 fn label_field<'l>(
     alloc: Global,
     several: bool,
     label: &'l str,
+    room: usize,
 ) -> Result<Vec<Option<&'l [u8]>>, AllocError>
     ensures { IfOk result (λ fields. fields_now fields.items ≡ label_field several label.now) }
 {
-    let mut fields = Vec::new(alloc);
+    let mut fields = Vec::with_capacity(alloc, room)?;
     if !several {
         return Ok(fields);
     }

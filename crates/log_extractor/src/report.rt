@@ -5,6 +5,7 @@ ghost use Rattle.text_lines.specs.Lines.{content, lines_of};
 ghost use Rattle.log_extractor.specs.Fields.{fields_now};
 ghost use Rattle.log_extractor.specs.Selected.{row_in, selected_names};
 ghost use Rattle.log_extractor.specs.Several.{AreLinePatterns, LabelledPattern};
+ghost use Rattle.log_extractor.specs.Taken.{TakesNext};
 ghost use Rattle.log_extractor.specs.Printed.{PartsAreJoined, table_head, extracted_lines, has_row, shown_line};
 ghost use Rattle.log_extractor.specs.Printed.{shown_as, shown_fields, shown_reject};
 ghost use Rattle.log_extractor.specs.declared.output.Form.{Form};
@@ -18,6 +19,7 @@ use crate::rows::Rows;
 use std::alloc::{AllocError, Global};
 use std::io::{BufRead, Write};
 use text_lines::failure::Failure;
+use text_lines::held::first_record;
 use text_lines::line::{append_whole, content};
 use text_lines::stream::{read_line, write_bytes};
 
@@ -74,16 +76,13 @@ pub fn print_lines<R: BufRead, W: Write>(
         → IfSome (R.remaining input.old) (λ text. found ≡ has_row rows.old.selection ps (lines_of text))) }
     ensures kept { rows.new ≡ rows.old }
 {
-    let mut line = Vec::new(alloc);
     let mut shown = Vec::new(alloc);
     let mut found = false;
     for before in 0..u64::MAX {
         shown.clear();
-        if !read_line(input, before + 1, &mut line)? {
+        let row = append_next(alloc, rows, output, input, before + 1, &mut shown)?;
+        let Some(row) = row else {
             return Ok(found);
-        }
-        let Ok(row) = append_line(alloc, rows, output, &line, &mut shown) else {
-            return Err(Failure::Line(before + 1));
         };
         found |= row;
         write_bytes(out, &shown)?;
@@ -91,22 +90,86 @@ pub fn print_lines<R: BufRead, W: Write>(
     Err(Failure::TooLong)
 }
 
-/// Appends what is printed of the line, which may have its end. Returns whether it has a row.
+/// Appends what is printed of the next line, which has this number, from 1. Returns whether it has a row, or `None` if
+/// there is no line. It is copied only if it is not whole in what the reader holds.
+fn append_next<R: BufRead>(
+    alloc: Global,
+    rows: &mut Rows<'_, '_>,
+    output: Output,
+    input: &mut R,
+    number: u64,
+    out: &mut Vec<u8>,
+) -> Result<Option<bool>, Failure>
+    ensures taken { IfOk result (λ row. TakesNext (R.remaining input.old) (R.remaining input.new) (λ line.
+        (ps : List LabelledPattern) → AreLinePatterns rows.old.parsers ps
+        → (out.new.items ≡ out.old.items ++ shown_line output rows.old.selection ps line)
+        × IfSome row (λ found. found ≡ is_some (row_in rows.old.selection ps (content line)))) (is_some row)) }
+    ensures kept { rows.new ≡ rows.old }
+{
+    let held = match input.fill_buf() {
+        Ok(held) => held,
+        Err(error) => {
+            Failure::unless_interrupted(error, number)?;
+            return append_copy(alloc, rows, output, input, number, out);
+        }
+    };
+    let Some(len) = first_record(held, b'\n') else {
+        if held.is_empty() {
+            return Ok(None);
+        }
+        return append_copy(alloc, rows, output, input, number, out);
+    };
+    let row = append_line(alloc, rows, output, &held[..len], number, out)?;
+    input.consume(len);
+    Ok(Some(row))
+}
+
+/// The same, of a copy of the line.
+#[inline(never)]
+fn append_copy<R: BufRead>(
+    alloc: Global,
+    rows: &mut Rows<'_, '_>,
+    output: Output,
+    input: &mut R,
+    number: u64,
+    out: &mut Vec<u8>,
+) -> Result<Option<bool>, Failure>
+    ensures taken { IfOk result (λ row. TakesNext (R.remaining input.old) (R.remaining input.new) (λ line.
+        (ps : List LabelledPattern) → AreLinePatterns rows.old.parsers ps
+        → (out.new.items ≡ out.old.items ++ shown_line output rows.old.selection ps line)
+        × IfSome row (λ found. found ≡ is_some (row_in rows.old.selection ps (content line)))) (is_some row)) }
+    ensures kept { rows.new ≡ rows.old }
+{
+    let mut line = Vec::new(alloc);
+    if !read_line(input, number, &mut line)? {
+        return Ok(None);
+    }
+    let row = append_line(alloc, rows, output, &line, number, out)?;
+    Ok(Some(row))
+}
+
+/// Appends what is printed of the line, which may have its end, and has this number, from 1. Returns whether it has a
+/// row.
 fn append_line(
     alloc: Global,
     rows: &mut Rows<'_, '_>,
     output: Output,
     line: &[u8],
+    number: u64,
     out: &mut Vec<u8>,
-) -> Result<bool, AllocError>
+) -> Result<bool, Failure>
     ensures shown { OnOk result ((ps : List LabelledPattern) → AreLinePatterns rows.old.parsers ps
         → out.new.items ≡ out.old.items ++ shown_line output rows.old.selection ps line.now) }
     ensures row { IfOk result (λ found. (ps : List LabelledPattern) → AreLinePatterns rows.old.parsers ps
         → found ≡ is_some (row_in rows.old.selection ps (content line.now))) }
     ensures kept { rows.new ≡ rows.old }
 {
-    let row = rows.row_of(alloc, content(line))?;
-    append_shown(alloc, output, rows.names(), line, &row, out)?;
+    let Ok(row) = rows.row_of(alloc, content(line)) else {
+        return Err(Failure::Line(number));
+    };
+    let Ok(()) = append_shown(alloc, output, rows.names(), line, &row, out) else {
+        return Err(Failure::Line(number));
+    };
     Ok(row.is_some())
 }
 

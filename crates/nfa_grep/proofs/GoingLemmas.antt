@@ -4,7 +4,7 @@ use Rattle.nfa_paths.proofs.Common.{Appends, Keeps, Appends-nil, Appends-trans, 
 use Rattle.text_lines.specs.Lines.{AreFirstRecords, HasNoRecord, TakesRecord}
 use Rattle.text_lines.proofs.LineLemmas.{text-of-first}
 use Rattle.nfa_grep.specs.Meant.{Options, Re}
-use Rattle.nfa_grep.specs.Going.{Groups, HasPassed, IsGoing, IsInOrder, LineStart, PrintsLines, kept_items, kept_texts, printed_later}
+use Rattle.nfa_grep.specs.Going.{Groups, HasPassed, IsGoing, IsInOrder, LineStart, Place, PrintsLines, Taken, TakesNext, kept_items, kept_texts, printed_later}
 use Rattle.nfa_grep.specs.Printed.{Context, Item, fewer, grouped, has_selected, is_picked, is_selected, item_of, items, left_after, read, searched, selected_count}
 use Rattle.nfa_grep.proofs.GroupedLemmas.{kept-none, none-printed}
 
@@ -188,7 +188,7 @@ module _ {wanted : Bool} {options : Options} {res : List Re} {name : List ℕ} {
         }
 
     -- one more line was read, and what is printed then was written
-    pub going-step : (after middle next : Option (List ℕ)) (line ahead here : List ℕ) (new : Groups) (b : Bool)
+    going-step : (after middle next : Option (List ℕ)) (line ahead here : List ℕ) (new : Groups) (b : Bool)
         → (not (nat_lt count limit) && (old.left == 0)) ≡ false
         → b ≡ (if nat_lt count limit then is_selected options res line else false)
         → TakesRecord options.end input after line → Appends out middle ahead → Appends middle next here
@@ -220,6 +220,26 @@ module _ {wanted : Bool} {options : Options} {res : List Re} {name : List ℕ} {
 
         added : (b : Bool) → cond b (count + 1) count ≡ count + cond b 1 0
         added b = grind arith
+
+    -- the next line was taken, and what is printed then was written
+    pub going-take : (after middle last : Option (List ℕ)) (place : Place) (new : Groups) (taken : Taken)
+        → place.name.now ≡ name → place.number ≡ number → place.offset ≡ offset → old.wanted ≡ wanted
+        → old.context ≡ context → (not (nat_lt count limit) && (old.left == 0)) ≡ false
+        → TakesNext options res place (nat_lt count limit) old new input after (Some taken)
+        → Appends out middle new.ahead.items → Appends middle last new.text.items
+        → IsGoing wanted options res name context used limit text after out-before last taken.next.number
+        taken.next.offset (cond taken.selected (count + 1) count) new
+    going-take after middle last place new taken name-is number-is offset-is wanted-is context-is more (line, is, takes)
+        first-part second-part =
+        let b : Bool = taken.selected in
+        let number-next : taken.next.number ≡ number + 1 = omega (arith, takes.number_is, number-is) in
+        let offset-next : taken.next.offset ≡ offset + length line = omega (arith, takes.offset_is, offset-is) in
+        let prints : (later : List Item) → printed_later old (item_of wanted options res name number offset b line
+        ∷ later) ≡ (new.ahead.items ++ new.text.items) ++ printed_later new later =
+        rw (wanted-is, name-is, number-is, offset-is) at takes.printed_is in
+        let left-is : new.left ≡ left_after context old.left b = rw context-is at takes.left_is in
+        rw (number-next, offset-next) (going-step after middle last line new.ahead.items new.text.items new b more
+        takes.selected_is is first-part second-part prints left-is)
 
     -- lines were passed, and nothing is printed of them
     pub going-pass : (after : Option (List ℕ)) (at next : LineStart) (new : Groups) → number ≡ at.number

@@ -1,12 +1,15 @@
 -- A search of an input that is under way, and one that has ended.
-use Rattle.std.specs.Prelude.{◌≡◌, ℕ, ◌+◌, ◌-◌, ◌<◌, ◌≤◌, ◌⊎◌, All, Bool, true, false, List, [], ◌++◌, Option, Some, IfSome, length, map}
+use Rattle.std.specs.Prelude.{◌≡◌, ℕ, ◌+◌, ◌-◌, ◌<◌, ◌≤◌, ◌⊎◌, All, Bool, true, false, List, [], ◌∷◌, ◌++◌, Option, None, Some, IfSome, if◌then◌else◌, length, map}
+use Rattle.std.specs.Io.KnownBytes.{Keeps}
 use Rattle.bstr.specs.Records.{records}
 use Rattle.nfa_paths.specs.Common.{concat, Appends}
-use Rattle.text_lines.specs.Lines.{AreFirstRecords}
+use Rattle.text_lines.specs.Lines.{AreFirstRecords, HasNoRecord, TakesRecord}
 use Rattle.nfa_grep.specs.Meant.{Options, Re}
-use Rattle.nfa_grep.specs.Printed.{Context, Item, Report, context_of, grouped, is_selected, items, limit_of, output, printed, read, read_in, selected_count}
+use Rattle.nfa_grep.specs.Printed.{Context, Item, Report, context_of, grouped, is_selected, item_of, items, left_after, limit_of, output, printed, read, read_in, selected_count}
 pub use Rattle.nfa_grep.specs.declared.groups.Groups.{Groups}
+pub use Rattle.nfa_grep.specs.declared.line.Place.{Place}
 pub use Rattle.nfa_grep.specs.declared.search.LineStart.{LineStart}
+pub use Rattle.nfa_grep.specs.declared.search.Taken.{Taken}
 
 -- the reader has what comes after these lines of the text, and so it has not read beyond them
 pub record StopsAfter (text : List ℕ) (lines : List (List ℕ)) (input : Option (List ℕ)) : Type 0 where
@@ -47,6 +50,24 @@ pub record HasPassed (options : Options) (res : List Re) (text : List ℕ) (left
   pub none_left : 0 < length lines → old.left ≡ 0
   pub printed_is : (items : List Item) → length lines ≡ length items → All (λ item. item.selected ≡ false) items
       → (later : List Item) → printed_later old (items ++ later) ≡ printed_later new later
+
+module _ (options : Options) (res : List Re) (place : Place) (searched : Bool) (old new : Groups) where
+  -- The line at this place was taken. It is selected or not, and not if it is not searched. Number and offset go on by
+  -- it. What is printed of it and of later lines is `ahead`, `text`, and what is printed of the later ones.
+  pub record TakesLine (taken : Taken) (line : List ℕ) : Type 0 where
+    pub number_is : taken.next.number ≡ place.number + 1
+    pub offset_is : taken.next.offset ≡ place.offset + length line
+    pub selected_is : taken.selected ≡ (if searched then is_selected options res line else false)
+    pub printed_is : (later : List Item)
+        → printed_later old (item_of old.wanted options res place.name.now place.number place.offset taken.selected line
+        ∷ later) ≡ (new.ahead.items ++ new.text.items) ++ printed_later new later
+    pub left_is : new.left ≡ left_after old.context old.left taken.selected
+
+  -- the next line of the reader was taken, or there was none, and nothing was read
+  abbrev pub TakesNext : Option (List ℕ) → Option (List ℕ) → Option Taken → Type 0
+  TakesNext before left None = HasNoRecord options.end before × Keeps before left
+  TakesNext before left (Some taken) =
+      (line : List ℕ) × TakesRecord options.end before left line × TakesLine taken line
 
 module _ (wanted : Bool) (options : Options) (res : List Re) (name : List ℕ) (context : Context) (used : Bool)
     (limit : ℕ) where

@@ -2,6 +2,7 @@
 ghost use Rattle.std.specs.Prelude.{◌≡◌, ◌+◌, ◌<◌, ◌^◌, IfOk, IfSome, List, OnOk};
 ghost use Rattle.regex_hir.specs.Re.{Re};
 ghost use Rattle.nfa_grep.specs.Going.{HasPassed, IsInOrder, PrintsLines, PrintsOutput, StopsInTime};
+ghost use Rattle.nfa_grep.specs.Going.{TakesLine, TakesNext};
 ghost use Rattle.nfa_grep.specs.Printed.{context_of, limit_of, shows};
 ghost use Rattle.nfa_grep.specs.Meant.{Mean};
 
@@ -12,6 +13,7 @@ use grep_options::options::Request;
 use std::alloc::Global;
 use std::io::{BufRead, Write};
 use text_lines::failure::Failure;
+use text_lines::held::first_record;
 use text_lines::passed::pass_records;
 use text_lines::stream::{read_record, write_bytes};
 
@@ -40,6 +42,28 @@ impl LineStart {
             offset: self.offset.checked_add(len as u64)?,
         })
     }
+
+    /// Returns where the line is in the input of this name.
+    #[inline]
+    fn place(self, name: &str) -> Place<'_>
+        ensures name { result.name.now ≡ name.now }
+        ensures number { result.number ≡ self.number }
+        ensures offset { result.offset ≡ self.offset }
+    {
+        Place {
+            name: name.as_bytes(),
+            number: self.number,
+            offset: self.offset,
+            end: b':',
+        }
+    }
+}
+
+/// A line that was taken: whether it is selected, and where the next one is.
+#[derive(Clone, Copy)]
+struct Taken {
+    selected: bool,
+    next: LineStart,
 }
 
 /// Prints all that is to be printed of an input, and returns how many of the lines that were searched are selected.
@@ -77,9 +101,9 @@ pub fn print_matches<R: BufRead, W: Write>(
 /// Prints what is to be printed of the lines of an input, and returns how many of the lines that were searched are
 /// selected.
 ///
-/// The input is read a line at a time, but for lines that are passed. So the memory is bounded by what is printed of
-/// one line more than are printed before a selected one. After an error, what was printed is a beginning of what is
-/// printed of the input.
+/// The input is read a line at a time, but for lines that are passed, and a line is searched where the reader holds it.
+/// So the memory is bounded by what is printed of one line more than are printed before a selected one. After an error,
+/// what was printed is a beginning of what is printed of the input.
 fn search<R: BufRead, W: Write>(
     alloc: Global,
     grep: &mut Grep<'_>,
@@ -105,32 +129,23 @@ fn search<R: BufRead, W: Write>(
             return Ok(count);
         }
         at = pass_lines(grep, &mut groups, at, input)?;
-        if !read_record(input, grep.options().end, at.number, &mut line)? {
+        let place = at.place(request.name);
+        let taken = take_next(grep, &mut groups, searched, place, input, &mut line)?;
+        let Some(taken) = taken else {
             return Ok(count);
-        }
-        let Some(next) = at.after(1, line.len()) else {
-            return Err(Failure::TooLong);
         };
-        let place = Place {
-            name: request.name.as_bytes(),
-            number: at.number,
-            offset: at.offset,
-            end: b':',
-        };
-        let Ok(selected) = groups.take_line(grep, searched, place, &line) else {
-            return Err(Failure::Line(at.number));
-        };
-        if selected {
+        if taken.selected {
             count += 1;
         }
         write_bytes(out, &groups.ahead)?;
         write_bytes(out, &groups.text)?;
-        at = next;
+        at = taken.next;
     }
     Err(Failure::TooLong)
 }
 
 /// Passes lines that come next, if they are not selected and not printed, and returns where the line after them is.
+#[inline(always)]
 fn pass_lines<R: BufRead>(
     grep: &Grep<'_>,
     groups: &mut Groups<'_>,
@@ -159,4 +174,98 @@ fn pass_lines<R: BufRead>(
         return Err(Failure::TooLong);
     };
     Ok(next)
+}
+
+/// Takes the next line. It is copied only if it is not whole in what the reader holds. There is none at the end of the
+/// input.
+#[inline]
+fn take_next<R: BufRead>(
+    grep: &mut Grep<'_>,
+    groups: &mut Groups<'_>,
+    searched: bool,
+    place: Place<'_>,
+    input: &mut R,
+    line: &mut Vec<u8>,
+) -> Result<Option<Taken>, Failure>
+    requires { IsInOrder groups.old }
+    ensures taken { IfOk result (λ taken. (res : List Re) → Mean grep.old res
+        → TakesNext grep.old.options res place.entry searched groups.old groups.new (R.remaining input.old)
+        (R.remaining input.new) taken) }
+    ensures in_order { OnOk result (IsInOrder groups.new) }
+    ensures same_context { OnOk result (groups.new.context ≡ groups.old.context) }
+    ensures same_wanted { OnOk result (groups.new.wanted ≡ groups.old.wanted) }
+    ensures kept { grep.new ≡ grep.old }
+{
+    let held = match input.fill_buf() {
+        Ok(held) => held,
+        Err(error) => {
+            Failure::unless_interrupted(error, place.number)?;
+            return take_copy(grep, groups, searched, place, input, line);
+        }
+    };
+    let Some(len) = first_record(held, grep.options().end) else {
+        if held.is_empty() {
+            return Ok(None);
+        }
+        return take_copy(grep, groups, searched, place, input, line);
+    };
+    let taken = take_line(grep, groups, searched, place, &held[..len])?;
+    input.consume(len);
+    Ok(Some(taken))
+}
+
+/// Takes the next line, and copies it first.
+#[inline(never)]
+fn take_copy<R: BufRead>(
+    grep: &mut Grep<'_>,
+    groups: &mut Groups<'_>,
+    searched: bool,
+    place: Place<'_>,
+    input: &mut R,
+    line: &mut Vec<u8>,
+) -> Result<Option<Taken>, Failure>
+    requires { IsInOrder groups.old }
+    ensures taken { IfOk result (λ taken. (res : List Re) → Mean grep.old res
+        → TakesNext grep.old.options res place.entry searched groups.old groups.new (R.remaining input.old)
+        (R.remaining input.new) taken) }
+    ensures in_order { OnOk result (IsInOrder groups.new) }
+    ensures same_context { OnOk result (groups.new.context ≡ groups.old.context) }
+    ensures same_wanted { OnOk result (groups.new.wanted ≡ groups.old.wanted) }
+    ensures kept { grep.new ≡ grep.old }
+{
+    if !read_record(input, grep.options().end, place.number, line)? {
+        return Ok(None);
+    }
+    let taken = take_line(grep, groups, searched, place, line)?;
+    Ok(Some(taken))
+}
+
+/// Takes this line, which may have its end.
+#[inline]
+fn take_line(
+    grep: &mut Grep<'_>,
+    groups: &mut Groups<'_>,
+    searched: bool,
+    place: Place<'_>,
+    line: &[u8],
+) -> Result<Taken, Failure>
+    requires { IsInOrder groups.old }
+    ensures taken { IfOk result (λ taken. (res : List Re) → Mean grep.old res
+        → TakesLine grep.old.options res place.entry searched groups.old groups.new taken line.now) }
+    ensures in_order { OnOk result (IsInOrder groups.new) }
+    ensures same_context { OnOk result (groups.new.context ≡ groups.old.context) }
+    ensures same_wanted { OnOk result (groups.new.wanted ≡ groups.old.wanted) }
+    ensures kept { grep.new ≡ grep.old }
+{
+    let at = LineStart {
+        number: place.number,
+        offset: place.offset,
+    };
+    let Some(next) = at.after(1, line.len()) else {
+        return Err(Failure::TooLong);
+    };
+    let Ok(selected) = groups.take_line(grep, searched, place, line) else {
+        return Err(Failure::Line(place.number));
+    };
+    Ok(Taken { selected, next })
 }

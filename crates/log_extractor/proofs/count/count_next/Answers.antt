@@ -1,0 +1,23 @@
+-- The record at the start of what the reader holds is the next line.
+use Rattle.std.proofs.Common.{◌≡◌, ◌∙◌, eqb-true, length, subst, sym, take}
+use Rattle.std.specs.Io.BufRead.{FillKeeps}
+use Rattle.text_lines.specs.Lines.{line_feed}
+use Rattle.text_lines.proofs.LineLemmas.{none-shown, takes-shown}
+use Rattle.log_extractor.proofs.count.count_next.Goals as goal
+
+pub returns-then-is_empty-clause-counted : goal.returns-then-is_empty-clause-counted
+returns-then-is_empty-clause-counted g c =
+    let none : length c.in-Ok.held.now ≡ 0 = eqb-true _ 0 (sym c.is_empty.ensures ∙ c.if-is_empty.true) in
+    none-shown line_feed (g.R.Read.remaining c.args.input.now) c.in-Ok.held.now none c.in-Ok.ensures.end
+
+pub returns-clause-counted : goal.returns-clause-counted
+returns-clause-counted g c =
+    let shown = c.in-Ok.held.now in
+    let rested = c.fill_buf.follows.lender-at-none in
+    let filled = subst (FillKeeps _ (g.R.Read.remaining rested) (g.R.BufRead.consumable_len rested)) c.in-Ok.is
+    c.fill_buf.follows.holds-at-none in (
+      take c.in-Some.len shown,
+      takes-shown line_feed (g.R.Read.remaining c.args.input.now) _ _ _ shown c.in-Some.len c.in-Some.ensures.within
+          c.in-Some.ensures.whole c.in-Ok.ensures.front c.in-Ok.ensures.end filled.0 filled.1 c.consume.ensures.bytes,
+      λ ps is values tally. c.in_ok-count_one.ensures.counted ps is values tally,
+    )
