@@ -1,5 +1,5 @@
 -- Assertions that read no more than the byte on each side of a position, and the bytes that a lazy DFA may read.
-use Rattle.std.specs.Prelude.{◌≡◌, ℕ, ◌<◌, ◌≤◌, ◌⊎◌, Bool, true, false, ◌||◌, ◌==◌, ◌++◌, List, length, slice_index_or, Option, None, Some, ⊤, option_to_list, if◌then◌else◌}
+use Rattle.std.specs.Prelude.{◌≡◌, ℕ, ◌<◌, ◌≤◌, ◌⊎◌, Bool, true, false, ◌||◌, ◌==◌, ◌++◌, List, length, slice_index, slice_index_or, Option, None, Some, ⊤, option_to_list, if◌then◌else◌}
 use Rattle.nfa_paths.specs.Common.{Automaton, Node, node_at, Look, is_word_byte, StartLine, WordUnicode, WordUnicodeNegate, WordStartUnicode, WordEndUnicode, WordStartHalfUnicode, WordEndHalfUnicode, Holding, holding_at}
 pub use Rattle.thompson_nfa.specs.Looks.{byte_before}
 use Rattle.thompson_nfa.specs.declared.look.Look as looks
@@ -81,3 +81,8 @@ plain_like b = if is_word_byte b then 97 else (if b == 10 || b == 13 then b else
 abbrev pub like : List Bool → ℕ → ℕ
 like marks b =
     if slice_index_or marks b false || slice_index_or marks (plain_like b) false then b else plain_like b
+
+-- no assertion tells a byte before a position from the one that the list has at its number
+pub record AreLikes (nfa : Automaton) (likes : List ℕ) : Type 0 where
+  pub same : (byte : ℕ) (after : Option ℕ) → byte < 256 → IsRead nfa (Some byte) → IsRead nfa after
+      → SameLooks nfa (sees (Some (slice_index likes byte)) after) (sees (Some byte) after)

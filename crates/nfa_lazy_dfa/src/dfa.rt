@@ -4,7 +4,7 @@ ghost use Rattle.regex_search_core.specs.declared.search.MatchKind.TheVariants.{
 ghost use Rattle.thompson_nfa.specs.Automaton.{node_of};
 ghost use Rattle.nfa_paths.specs.Paths.{is_utf8_empty};
 ghost use Rattle.nfa_lazy_dfa.specs.Apart.{IsStartApart};
-ghost use Rattle.nfa_lazy_dfa.specs.Assertions.{AreTerminators, HasNoLook, HasNoUnicodeWord, HasUnicodeWord, IsQuit};
+ghost use Rattle.nfa_lazy_dfa.specs.Assertions.{AreLikes, HasNoLook, HasNoUnicodeWord, HasUnicodeWord, IsQuit};
 ghost use Rattle.nfa_lazy_dfa.specs.Assertions.{IsRead, is_look, may_follow, reads_bytes};
 ghost use Rattle.nfa_lazy_dfa.specs.Cuts.{AreCuts};
 
@@ -12,7 +12,7 @@ use crate::apart::is_start_apart;
 use crate::config::{Builder, Config};
 use crate::cuts::cuts_of;
 use crate::sparse::is_sparse;
-use crate::terminators::terminators_of;
+use crate::terminators::likes_of;
 use nfa_scan_core::starts::is_utf8_empty;
 use regex_search_core::MatchKind;
 use thompson_nfa::{BuildError, Look, NFA, State};
@@ -44,9 +44,9 @@ pub struct DFA {
     /// The NFA has an assertion.
     pub(crate) looks: bool,
     pub(crate) ghost looks_are: { looks ≡ false → HasNoLook nfa },
-    /// The line terminators of assertions.
-    pub(crate) terminators: [bool; 256],
-    pub(crate) ghost terminators_are: { AreTerminators nfa terminators },
+    /// For each byte one that no assertion tells from it.
+    pub(crate) likes: [u8; 256],
+    pub(crate) ghost likes_are: { AreLikes nfa likes },
     /// A match counts only if it ends on a boundary.
     pub(crate) on_boundary: bool,
     pub(crate) ghost on_boundary_is: { on_boundary ≡ is_utf8_empty nfa },
@@ -76,7 +76,7 @@ impl DFA {
     {
         let quits = has_unicode_word(&nfa);
         let looks = has_look(&nfa);
-        let terminators = terminators_of(&nfa);
+        let likes = likes_of(&nfa);
         let on_boundary = is_utf8_empty(&nfa);
         let apart = is_start_apart(&nfa);
         let cuts = cuts_of(&nfa, looks);
@@ -88,7 +88,7 @@ impl DFA {
             max_clears: config.get_minimum_cache_clear_count().unwrap_or(usize::MAX),
             quits,
             looks,
-            terminators,
+            likes,
             on_boundary,
             apart,
             cuts,

@@ -5,7 +5,7 @@ ghost use Rattle.regex_search_core.specs.declared.search.MatchKind.TheVariants.{
 ghost use Rattle.thompson_nfa.specs.Automaton.{node_of};
 ghost use Rattle.nfa_paths.specs.Graphs.{In};
 ghost use Rattle.nfa_paths.specs.Paths.{pattern_of};
-ghost use Rattle.nfa_lazy_dfa.specs.Assertions.{IsRead, SameLooks, like, plain_like, sees};
+ghost use Rattle.nfa_lazy_dfa.specs.Assertions.{IsRead, SameLooks, sees};
 ghost use Rattle.nfa_lazy_dfa.specs.Capacities.{largest_row_memory};
 ghost use Rattle.nfa_lazy_dfa.specs.Rows as rows;
 ghost use Rattle.nfa_lazy_dfa.specs.Stances.{Covers, IsNext, goes_on, here, hit_here, hits_here, patterns_for};
@@ -157,34 +157,9 @@ pub fn before(dfa: &DFA, byte: Option<u8>) -> Option<u8>
         → SameLooks dfa.now.nfa (sees result after) (sees byte after) }
 {
     if dfa.looks {
-        Some(like(&dfa.terminators, byte?))
+        Some(dfa.likes[byte? as usize])
     } else {
         None
-    }
-}
-
-/// A byte like this one, if these are the line terminators of assertions.
-fn like(terminators: &[bool; 256], byte: u8) -> u8
-    ensures { result ≡ like terminators.now byte }
-{
-    let plain = plain_like(byte);
-    if terminators[byte as usize] || terminators[plain as usize] {
-        byte
-    } else {
-        plain
-    }
-}
-
-/// A byte like this one: `a` for one of a word, a space for all others but line feed and carriage return.
-fn plain_like(byte: u8) -> u8
-    ensures { result ≡ plain_like byte }
-{
-    if byte.is_ascii_alphanumeric() || byte == b'_' {
-        b'a'
-    } else if byte == b'\n' || byte == b'\r' {
-        byte
-    } else {
-        b' '
     }
 }
 

@@ -71,6 +71,7 @@ impl DFA {
     /// assert!(rt; dfa.try_is_match(cache, Input::new(b"foo12345"))?);
     /// assert!(rt; !dfa.try_is_match(cache, Input::new(b"foobar"))?);
     /// ```
+    #[inline(always)]
     pub fn try_is_match<'h>(&self, cache: &mut Cache, input: Input<'h>) -> Result<bool, StopError>
         requires { IsFor cache.old self.now }
         ensures own { IsFor cache.new self.now }

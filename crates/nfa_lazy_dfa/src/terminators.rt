@@ -1,12 +1,25 @@
-//! The line terminators of the assertions of an NFA.
+//! Bytes that the assertions of an NFA cannot tell from each other.
 ghost use Rattle.std.specs.Prelude.{◌≡◌, true, slice_index_or, false};
 ghost use Rattle.thompson_nfa.specs.Automaton.{node_of};
-ghost use Rattle.nfa_lazy_dfa.specs.Assertions.{AreTerminators, IsMarkedBy, KeepsMarks};
+ghost use Rattle.nfa_lazy_dfa.specs.Assertions.{AreLikes, AreTerminators, IsMarkedBy, KeepsMarks, like, plain_like};
 
 use thompson_nfa::{Look, NFA, State};
 
+/// For each byte one that is like it: no assertion tells the two from each other before a position. So rows are made for
+/// few bytes.
+pub fn likes_of(nfa: &NFA) -> [u8; 256]
+    ensures { AreLikes nfa.now result }
+{
+    let terminators = terminators_of(nfa);
+    let mut likes = [0u8; 256];
+    for byte in 0..256 {
+        likes[byte] = like(&terminators, byte as u8);
+    }
+    likes
+}
+
 /// Marks the bytes that an assertion `StartLine` tells from all others.
-pub fn terminators_of(nfa: &NFA) -> [bool; 256]
+fn terminators_of(nfa: &NFA) -> [bool; 256]
     ensures { AreTerminators nfa.now result }
 {
     let mut marks = [false; 256];
@@ -27,5 +40,30 @@ fn mark_terminator(marks: &mut [bool; 256], state: &State)
             ..
         } => marks[*byte as usize] = true,
         _ => {}
+    }
+}
+
+/// A byte like this one, if these are the line terminators of assertions.
+fn like(terminators: &[bool; 256], byte: u8) -> u8
+    ensures { result ≡ like terminators.now byte }
+{
+    let plain = plain_like(byte);
+    if terminators[byte as usize] || terminators[plain as usize] {
+        byte
+    } else {
+        plain
+    }
+}
+
+/// A byte like this one: `a` for one of a word, a space for all others but line feed and carriage return.
+fn plain_like(byte: u8) -> u8
+    ensures { result ≡ plain_like byte }
+{
+    if byte.is_ascii_alphanumeric() || byte == b'_' {
+        b'a'
+    } else if byte == b'\n' || byte == b'\r' {
+        byte
+    } else {
+        b' '
     }
 }
