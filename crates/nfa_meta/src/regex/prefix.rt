@@ -35,7 +35,6 @@ impl Regex {
 
     /// Returns the same for a search for the end of a match, which may be the earliest one. Where a match may not start
     /// or end anywhere, that is the input.
-    #[inline(always)]
     pub(super) fn half_from_prefix<'h>(&self, input: Input<'h>) -> Option<Input<'h>>
         ensures nothing { IfNone result
             (HasNoHalf self.now.choice.nfa (kind_in self.now.choice) (search_of input.entry)) }
