@@ -109,6 +109,13 @@ impl Literals {
         self.next_begin(nfa, input, from)
     }
 
+    /// Whether only the first byte of a match says where one may start: no prefix, and no byte that each match has, is
+    /// looked for.
+    #[inline(always)]
+    pub fn are_first_bytes(&self) -> bool {
+        self.levels.is_none() && self.prefix.is_empty() && self.required.is_none()
+    }
+
     /// Returns such a position, as far as the first bytes and the required ones say. A call of its own, so that a
     /// search for a prefix saves no registers.
     #[inline(never)]

@@ -43,10 +43,19 @@ impl Regex {
     {
         starts_may_be_passed();
         nothing_has_no_answer();
-        if !self.is_unbound(&input) {
+        if !self.is_unbound(&input) || self.begins_at_start(&input) {
             return Some(input);
         }
         rest_from(self.choice.get_nfa(), &self.literals, input)
+    }
+
+    /// Whether literals pass no position of the input, as its first byte may begin a match. That saves a call.
+    #[inline(always)]
+    fn begins_at_start(&self, input: &Input<'_>) -> bool {
+        match input.haystack().get(input.start()) {
+            Some(byte) => self.literals.are_first_bytes() && self.choice.may_begin(*byte),
+            None => false,
+        }
     }
 }
 
