@@ -27,3 +27,11 @@ returns-clause-taken g c =
           c.in-Some.ensures.whole c.in-Ok.ensures.front c.in-Ok.ensures.end filled.0 filled.1 c.consume.ensures.bytes,
       λ ps is. (c.in_ok-row.ensures.shown ps is, c.in_ok-row.ensures.row ps is),
     )
+
+pub returns-in_default-clause-taken : goal.returns-in_default-clause-taken
+returns-in_default-clause-taken g c =
+    let rested = c.fill_buf.follows.lender-at-none in
+    let filled = subst (FillKeeps _ (g.R.Read.remaining rested) (g.R.BufRead.consumable_len rested)) c.in-Ok.is
+    c.fill_buf.follows.holds-at-none in
+    result-kept (g.R.Read.remaining c.args.input.now) _ _ filled.0 _ is_some c.append_copy-in_default.result
+    c.append_copy-in_default.ensures.taken
