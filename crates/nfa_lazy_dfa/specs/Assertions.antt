@@ -54,7 +54,7 @@ sees before after = holding_at (option_to_list before ++ option_to_list after) (
 pub record SameLooks (nfa : Automaton) (a b : Holding) : Type 0 where
   pub same : (s : ℕ) (look : looks.Look) (next : ℕ) → node_at nfa s ≡ Look look next → a look ≡ b look
 
--- the bytes that an assertion tells from all others are marked
+-- if the assertion is that a line starts after a terminator of its own, that byte is marked
 abbrev pub IsLookMarked : List Bool → looks.Look → Type 0
 IsLookMarked marks (StartLine terminator) = slice_index_or marks terminator false ≡ true
 IsLookMarked marks _ = ⊤
@@ -82,7 +82,7 @@ abbrev pub like : List Bool → ℕ → ℕ
 like marks b =
     if slice_index_or marks b false || slice_index_or marks (plain_like b) false then b else plain_like b
 
--- no assertion tells a byte before a position from the one that the list has at its number
+-- each assertion holds after a byte exactly if it holds after the one that the list has at the byte's number
 pub record AreLikes (nfa : Automaton) (likes : List ℕ) : Type 0 where
   pub same : (byte : ℕ) (after : Option ℕ) → byte < 256 → IsRead nfa (Some byte) → IsRead nfa after
       → SameLooks nfa (sees (Some (slice_index likes byte)) after) (sees (Some byte) after)

@@ -44,7 +44,7 @@ pub struct DFA {
     /// The NFA has an assertion.
     pub(crate) looks: bool,
     pub(crate) ghost looks_are: { looks ≡ false → HasNoLook nfa },
-    /// For each byte one that no assertion tells from it.
+    /// For each byte one after which the same assertions hold.
     pub(crate) likes: [u8; 256],
     pub(crate) ghost likes_are: { AreLikes nfa likes },
     /// A match counts only if it ends on a boundary.

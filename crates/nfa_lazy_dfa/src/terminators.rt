@@ -1,12 +1,11 @@
-//! Bytes that the assertions of an NFA cannot tell from each other.
+//! Bytes after which the same assertions of an NFA hold.
 ghost use Rattle.std.specs.Prelude.{◌≡◌, true, slice_index_or, false};
 ghost use Rattle.thompson_nfa.specs.Automaton.{node_of};
 ghost use Rattle.nfa_lazy_dfa.specs.Assertions.{AreLikes, AreTerminators, IsMarkedBy, KeepsMarks, like, plain_like};
 
 use thompson_nfa::{Look, NFA, State};
 
-/// For each byte one that is like it: no assertion tells the two from each other before a position. So rows are made for
-/// few bytes.
+/// Returns for each byte one that is like it: the same assertions hold after both. So rows are made for few bytes.
 pub fn likes_of(nfa: &NFA) -> [u8; 256]
     ensures { AreLikes nfa.now result }
 {
@@ -18,7 +17,7 @@ pub fn likes_of(nfa: &NFA) -> [u8; 256]
     likes
 }
 
-/// Marks the bytes that an assertion `StartLine` tells from all others.
+/// Marks the line terminators of the assertions `StartLine`.
 fn terminators_of(nfa: &NFA) -> [bool; 256]
     ensures { AreTerminators nfa.now result }
 {

@@ -21,7 +21,8 @@ module _ (terminator : ℕ) where
   pattern-below n _ below = below
 
   -- what is true of each state stays true of each
-  each-state : (P : Node → Type 0) (nodes : List Node) → ((node : Node) → P node → P (node_with_terminator terminator node))
+  each-state : (P : Node → Type 0) (nodes : List Node)
+      → ((node : Node) → P node → P (node_with_terminator terminator node))
       → All P nodes → All P (map (node_with_terminator terminator) nodes)
   each-state P nodes stays all =
       All-map P (node_with_terminator terminator) nodes

@@ -211,9 +211,9 @@ impl NFA {
         NFA::from_states(states, start, start, Vec::new(alloc), groups, false, false)
     }
 
-    /// Returns the NFA with this byte as the line terminator in place of `\n`: each `StartLF` is `StartLine` of the byte,
-    /// and each `EndLF` is `EndLine`. All else stays, so `.` in a pattern still matches all but `\n`, and assertions of
-    /// `\r\n` stay as they are.
+    /// Returns the NFA with this byte as the line terminator in place of `\n`: each `StartLF` is `StartLine` of the
+    /// byte, and each `EndLF` is `EndLine`. All else stays, so `.` in a pattern still matches all but `\n`, and
+    /// assertions of `\r\n` stay as they are.
     pub fn with_line_terminator(mut self, byte: u8) -> NFA
         ensures { result ≡ nfa_with_terminator byte self }
     {
