@@ -1,3 +1,4 @@
+mod CountedLemmas
 mod GoingLemmas
 mod GroupedLemmas
 mod MeantLemmas

@@ -25,7 +25,7 @@ needed-of options trees res bytes same straight has = λ line small selected.
     (here.0, occurs-record bytes options.end line here.0 here.1)
 
 module _ (options : Options) (res : List Re) where
-  lacking : (bytes line : List ℕ) → IsNeeded options res bytes → HasBytes line → Lacks line bytes
+  pub lacking : (bytes line : List ℕ) → IsNeeded options res bytes → HasBytes line → Lacks line bytes
       → is_selected options res line ≡ false
   lacking bytes line needed small lacks =
       false_from_ne_true (is_selected options res line) (λ selected. let here = needed line small selected in

@@ -1,3 +1,4 @@
+pub mod Counted
 pub mod Going
 pub mod Meant
 pub mod Painted

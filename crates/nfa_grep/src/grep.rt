@@ -135,7 +135,7 @@ impl<'p> Grep<'p> {
 
     /// Returns whether the line is selected: whether some pattern matches somewhere in it, or, if the options invert
     /// that, whether none does. The line may have its end.
-    fn selects(&mut self, line: &[u8]) -> bool
+    pub fn selects(&mut self, line: &[u8]) -> bool
         ensures selected { (res : List Re) → Mean self.old res
             → result ≡ is_selected self.old.options res line.now }
         ensures kept { self.new ≡ self.old }

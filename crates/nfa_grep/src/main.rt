@@ -2,6 +2,7 @@
 #![tactic(auto)]
 
 mod binary;
+mod count;
 mod fault;
 mod files;
 mod grep;

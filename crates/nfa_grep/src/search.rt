@@ -6,6 +6,7 @@ ghost use Rattle.nfa_grep.specs.Going.{TakesLine, TakesNext};
 ghost use Rattle.nfa_grep.specs.Printed.{context_of, limit_of, shows};
 ghost use Rattle.nfa_grep.specs.Meant.{Mean};
 
+use crate::count::count_lines;
 use crate::grep::Grep;
 use crate::groups::Groups;
 use crate::line::{Place, append_summary};
@@ -85,7 +86,7 @@ pub fn print_matches<R: BufRead, W: Write>(
         (R.remaining input.old) (R.remaining input.new)) }
     ensures kept { grep.new ≡ grep.old }
 {
-    let count = search(alloc, grep, request, input, out)?;
+    let count = print_lines(alloc, grep, request, input, out)?;
     let mut last = Vec::new(alloc);
     append_summary(
         request.report,
@@ -100,6 +101,28 @@ pub fn print_matches<R: BufRead, W: Write>(
 
 /// Prints what is to be printed of the lines of an input, and returns how many of the lines that were searched are
 /// selected.
+fn print_lines<R: BufRead, W: Write>(
+    alloc: Global,
+    grep: &mut Grep<'_>,
+    request: Request<'_>,
+    input: &mut R,
+    out: &mut W,
+) -> Result<u64, Failure>
+    ensures printed { IfOk result (λ count. (res : List Re) → Mean grep.old res
+        → PrintsLines (shows request.entry.report) grep.old.options res request.entry.name.now
+        (context_of request.entry.report request.entry.context) request.entry.used
+        (limit_of request.entry.report request.entry.limit) (R.remaining input.old) (R.remaining input.new)
+        (W.contents out.old) (W.contents out.new) count) }
+    ensures kept { grep.new ≡ grep.old }
+{
+    if request.report.shows() {
+        search(alloc, grep, request, input, out)
+    } else {
+        count_lines(alloc, grep, request.report.limit(request.limit), input)
+    }
+}
+
+/// The same, line by line.
 ///
 /// The input is read a line at a time, but for lines that are passed, and a line is searched where the reader holds it.
 /// So the memory is bounded by what is printed of one line more than are printed before a selected one. After an error,

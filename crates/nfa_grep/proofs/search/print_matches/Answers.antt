@@ -13,7 +13,7 @@ returns-clause-printed g c = λ res meant.
     let last-is : last ≡ summary request.report options request.name.now c.in_ok-count.count =
     rw (c.new-last.ensures.items, same, name-is) at c.in_ok-append_summary.ensures in
     let before = g.W.Write.contents c.args.out.now in
-    let middle = g.W.Write.contents c.search.new.out in
+    let middle = g.W.Write.contents c.print_lines.new.out in
     let after = g.W.Write.contents c.write_bytes.new.out in
     let appends : Appends middle after last = rw c.deref.ensures.value at c.in_ok-write_bytes.ensures in
     IfSome_then (g.R.Read.remaining c.args.input.now) (c.in_ok-count.ensures.printed res meant) (λ text lines.
