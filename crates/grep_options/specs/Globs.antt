@@ -66,18 +66,18 @@ is_any_text AnyChar = false
 is_any_text AnyText = true
 is_any_text (InSet negated letters) = false
 
--- whether something is so of a text, or of what is left of it after some characters
-abbrev pub some_rest : (List ℕ → Bool) → List ℕ → Bool
+-- whether something is so of a text, or of what is left of it after some characters; and the same of other lists
+abbrev pub some_rest : {A : Type 0} → (List A → Bool) → List A → Bool
 some_rest p [] = p []
 some_rest p (c ∷ cs) = p (c ∷ cs) || some_rest p cs
 
--- whether the text is empty
-abbrev pub is_nil : List ℕ → Bool
+-- whether the text, or another list, is empty
+abbrev pub is_nil : {A : Type 0} → List A → Bool
 is_nil [] = true
 is_nil _ = false
 
--- whether the first character is matched, and the other ones are as they have to be
-abbrev pub takes_first : (ℕ → Bool) → (List ℕ → Bool) → List ℕ → Bool
+-- whether the first one of a text, or of another list, is matched, and the other ones are as they have to be
+abbrev pub takes_first : {A : Type 0} → (A → Bool) → (List A → Bool) → List A → Bool
 takes_first p q [] = false
 takes_first p q (c ∷ cs) = p c && q cs
 

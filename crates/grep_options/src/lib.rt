@@ -12,6 +12,8 @@ pub mod error;
 mod flags;
 mod given;
 pub mod glob;
+mod ignored;
+mod ignoring;
 pub mod marked;
 mod matching;
 pub mod options;
