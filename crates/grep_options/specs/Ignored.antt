@@ -9,10 +9,10 @@ use Rattle.grep_options.specs.Globs.{Letter, is_nil, letters_after, means, parts
 -- What a line says: paths that its glob matches are left out, or taken in again; all paths, or only those of folders.
 -- Names of a path before the glob, as many as the path of the folder of the file has, are not compared.
 pub record PathRule : Type 0 where
-  depth : ℕ
-  included : Bool
-  folders : Bool
-  glob : List Letter
+  pub depth : ℕ
+  pub included : Bool
+  pub folders : Bool
+  pub glob : List Letter
 
 -- what a rule says
 abbrev pub said : IgnoreRule → PathRule
