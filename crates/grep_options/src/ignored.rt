@@ -62,11 +62,7 @@ fn fits(
 
 /// Returns whether these parts of a glob match the path of these names, in time that grows with their number times
 /// that of the names.
-fn path_fits(
-    alloc: Global,
-    parts: &[&[Letter]],
-    names: &[&[char]],
-) -> Result<bool, AllocError>
+fn path_fits(alloc: Global, parts: &[&[Letter]], names: &[&[char]]) -> Result<bool, AllocError>
     ensures { IfOk result (λ yes. yes
         ≡ path_fits (map (λ part. part.now) parts.now) (map (λ name. name.now) names.now)) }
 {
