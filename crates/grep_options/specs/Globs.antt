@@ -1,6 +1,6 @@
 -- What a glob matches: `?` is any character, `*` any text, and `[..]` one of some characters, or with `!` or `^` first
 -- none of them. After a backslash a character is itself. Texts are lists of characters.
-use Rattle.std.specs.Prelude.{ℕ, ◌+◌, Bool, true, false, not, ◌&&◌, ◌||◌, List, [], ◌∷◌, length, zero, suc, option_map, if◌then◌else◌, ◌==◌, nat_le, Option, None, Some, drop, take, position}
+use Rattle.std.specs.Prelude.{ℕ, ◌+◌, Bool, true, false, not, ◌&&◌, ◌||◌, List, [], ◌∷◌, length, zero, suc, option_map, if◌then◌else◌, ◌==◌, nat_le, Option, None, Some, is_none, drop, take, position}
 use Rattle.std.specs.Str.{chars}
 pub use Rattle.grep_options.specs.declared.rules.Rule.{Rule}
 pub use Rattle.grep_options.specs.declared.glob.Letter.{Letter}
@@ -136,6 +136,17 @@ parts_after skipped [] = []
 parts_after (suc skipped) (letter ∷ letters) = parts_after skipped letters
 parts_after zero (letter ∷ letters) =
     (part_at letter letters).0 ∷ parts_after (part_at letter letters).1 letters
+
+-- whether a bracket that another one would have to end begins here
+abbrev pub is_open_set : Letter → List Letter → Bool
+is_open_set letter letters = means letter 91 && is_none (set_after letters)
+
+-- whether one of these letters without the first ones is such a bracket
+abbrev pub has_open_set : ℕ → List Letter → Bool
+has_open_set skipped [] = false
+has_open_set (suc skipped) (letter ∷ letters) = has_open_set skipped letters
+has_open_set zero (letter ∷ letters) =
+    is_open_set letter letters || has_open_set (part_at letter letters).1 letters
 
 -- the parts of a glob
 abbrev pub parts_of : List ℕ → List Part

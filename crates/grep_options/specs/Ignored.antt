@@ -4,7 +4,7 @@ use Rattle.std.specs.Prelude.{ℕ, ◌+◌, ◌-◌, ◌%◌, Bool, true, false,
 use Rattle.std.specs.List.{list_all, list_any, slice_split}
 use Rattle.std.specs.Str.{chars}
 pub use Rattle.grep_options.specs.declared.ignoring.IgnoreRule.{IgnoreRule}
-use Rattle.grep_options.specs.Globs.{Letter, is_nil, letters_after, means, parts_after, parts_match, some_rest, takes_first}
+use Rattle.grep_options.specs.Globs.{Letter, has_open_set, is_nil, letters_after, means, parts_after, parts_match, some_rest, takes_first}
 
 -- What a line says: paths that its glob matches are left out, or taken in again; all paths, or only those of folders.
 -- Names of a path before the glob, as many as the path of the folder of the file has, are not compared.
@@ -39,10 +39,10 @@ without_blanks letters = take (length letters - count_at_end (λ l. means l 32) 
 abbrev pub is_slash : Letter → Bool
 is_slash letter = letter.value == 47
 
--- the characters without a slash before them
+-- the characters without a slash before them, other than one after a backslash, with which nothing matches
 abbrev pub without_first_slash : List Letter → List Letter
 without_first_slash [] = []
-without_first_slash (letter ∷ letters) = if is_slash letter then letters else (letter ∷ letters)
+without_first_slash (letter ∷ letters) = if means letter 47 then letters else (letter ∷ letters)
 
 -- The glob of a whole path in the folder of the file. One without a slash is that of a name in any folder there.
 abbrev pub path_glob : List Letter → List Letter
@@ -96,9 +96,9 @@ rule_of_line depth line =
 abbrev pub is_deep : List Letter → Bool
 is_deep part = nat_le 2 (length part) && list_all (λ l. means l 42) part
 
--- whether a part of a glob matches a name
+-- whether a part of a glob matches a name: nothing matches a set without its second bracket
 abbrev pub name_fits : List Letter → List ℕ → Bool
-name_fits part name = parts_match (parts_after 0 part) name
+name_fits part name = not (has_open_set 0 part) && parts_match (parts_after 0 part) name
 
 -- Whether the parts of a glob match a path of these names: `**` matches any number of folders, or as the last one all
 -- in a folder, and each other part one name.

@@ -5,7 +5,7 @@ ghost use Rattle.std.specs.Str.{chars};
 ghost use Rattle.grep_options.specs.Globs.{is_match, is_nil, is_short, means, some_rest, takes_first};
 ghost use Rattle.grep_options.specs.Ignored.{fits, is_deep, is_ignored, is_slash, name_fits, path_fits, said};
 
-use crate::glob::{Letter, chars_of, tokens_of};
+use crate::glob::{Letter, chars_of, has_open_set, tokens_of};
 use crate::ignoring::{IgnoreRule, is_slash};
 use crate::matching::{Outcome, parts_match};
 use std::alloc::{AllocError, Global};
@@ -179,6 +179,9 @@ fn has_only_stars(part: &[Letter]) -> bool
 fn name_fits(alloc: Global, part: &[Letter], name: &[char]) -> Result<bool, AllocError>
     ensures { IfOk result (λ yes. yes ≡ name_fits part.now name.now) }
 {
+    if has_open_set(0, part) {
+        return Ok(false);
+    }
     let tokens = tokens_of(alloc, part)?;
     Ok(parts_match(&tokens, name))
 }

@@ -187,7 +187,7 @@ fn without_first_slash(letters: &[Letter]) -> &[Letter]
     ensures { result.now ≡ without_first_slash letters.entry.now }
 {
     match letters {
-        [first, others @ ..] if is_slash(*first) => others,
+        [first, others @ ..] if first.means('/') => others,
         _ => letters,
     }
 }
