@@ -1,2 +1,3 @@
 mod GlobLemmas
 mod OutcomeLemmas
+mod PathLemmas

@@ -1,6 +1,6 @@
 -- What a glob matches: `?` is any character, `*` any text, and `[..]` one of some characters, or with `!` or `^` first
 -- none of them. After a backslash a character is itself. Texts are lists of characters.
-use Rattle.std.specs.Prelude.{ℕ, ◌+◌, Bool, true, false, not, ◌&&◌, ◌||◌, List, [], ◌∷◌, length, zero, suc, option_map, if◌then◌else◌, ◌==◌, nat_le, Option, None, Some, drop, take, position}
+use Rattle.std.specs.Prelude.{ℕ, ◌+◌, Bool, true, false, not, ◌&&◌, ◌||◌, List, [], ◌∷◌, length, zero, suc, option_map, if◌then◌else◌, ◌==◌, nat_le, Option, None, Some, is_none, drop, take, position}
 use Rattle.std.specs.Str.{chars}
 pub use Rattle.grep_options.specs.declared.rules.Rule.{Rule}
 pub use Rattle.grep_options.specs.declared.glob.Letter.{Letter}
@@ -66,18 +66,18 @@ is_any_text AnyChar = false
 is_any_text AnyText = true
 is_any_text (InSet negated letters) = false
 
--- whether something is so of a text, or of what is left of it after some characters
-abbrev pub some_rest : (List ℕ → Bool) → List ℕ → Bool
+-- whether something is so of a text, or of what is left of it after some characters; and the same of other lists
+abbrev pub some_rest : {A : Type 0} → (List A → Bool) → List A → Bool
 some_rest p [] = p []
 some_rest p (c ∷ cs) = p (c ∷ cs) || some_rest p cs
 
--- whether the text is empty
-abbrev pub is_nil : List ℕ → Bool
+-- whether the text, or another list, is empty
+abbrev pub is_nil : {A : Type 0} → List A → Bool
 is_nil [] = true
 is_nil _ = false
 
--- whether the first character is matched, and the other ones are as they have to be
-abbrev pub takes_first : (ℕ → Bool) → (List ℕ → Bool) → List ℕ → Bool
+-- whether the first one of a text, or of another list, is matched, and the other ones are as they have to be
+abbrev pub takes_first : {A : Type 0} → (A → Bool) → (List A → Bool) → List A → Bool
 takes_first p q [] = false
 takes_first p q (c ∷ cs) = p c && q cs
 
@@ -136,6 +136,17 @@ parts_after skipped [] = []
 parts_after (suc skipped) (letter ∷ letters) = parts_after skipped letters
 parts_after zero (letter ∷ letters) =
     (part_at letter letters).0 ∷ parts_after (part_at letter letters).1 letters
+
+-- whether a bracket that another one would have to end begins here
+abbrev pub is_open_set : Letter → List Letter → Bool
+is_open_set letter letters = means letter 91 && is_none (set_after letters)
+
+-- whether one of these letters without the first ones is such a bracket
+abbrev pub has_open_set : ℕ → List Letter → Bool
+has_open_set skipped [] = false
+has_open_set (suc skipped) (letter ∷ letters) = has_open_set skipped letters
+has_open_set zero (letter ∷ letters) =
+    is_open_set letter letters || has_open_set (part_at letter letters).1 letters
 
 -- the parts of a glob
 abbrev pub parts_of : List ℕ → List Part

@@ -1,3 +1,4 @@
 pub mod Globs
+pub mod Ignored
 pub mod Reports
 pub mod Texts

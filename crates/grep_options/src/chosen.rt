@@ -84,7 +84,7 @@ fn step_of_file(rt: &HostRuntime, arguments: &Arguments<'_>, path: &str) -> io::
 }
 
 /// Returns the name that ends a path.
-fn name_in(path: &str) -> &str {
+pub fn name_in(path: &str) -> &str {
     match path.rsplit_once('/') {
         Some((_, name)) => name,
         None => path,

@@ -27,7 +27,8 @@ In a glob, ? is any character, * any text, slashes too, and [a-z] one of these c
 A backslash takes the meaning of the next character. A glob has to match a whole name: in a folder, the name there;
 as an argument, the argument, or what comes after a slash in it. The last of --include and --exclude that matches
 decides. If none does, the file is searched unless the first one is --include. Hidden folders are searched, too, and
-what .gitignore names: write --exclude-dir=.git, or --exclude.
+what .gitignore names, unless --ignore-files is given. It passes over .git, and what git would by the .gitignore files
+in the folders that are searched, from the named one down: not by those above it, and not by a line with [[:alpha:]].
 
 Status: 0 if a line was selected, 1 if none was, 2 after an error.";
 
@@ -50,12 +51,16 @@ pub struct Arguments<'w> {
     pub devices: Devices,
     /// Links in folders are followed.
     pub links: bool,
+    /// What `.gitignore` files in folders name is passed over.
+    pub ignoring: bool,
     /// The name of standard input, as it is printed.
     pub label: &'w str,
     /// The names of inputs are not printed.
     pub unnamed: bool,
     /// Files that cannot be read are not named.
     pub silent: bool,
+    /// A terminal shows how many files were searched.
+    pub progress: bool,
     /// Each line is written at once.
     pub line_buffered: bool,
     /// The patterns, one on each line of these.
@@ -134,9 +139,11 @@ fn read_matches<'w>(
         folders: folders_of(matches),
         devices: devices_of(matches),
         links: matches.get_flag("dereference-recursive"),
+        ignoring: matches.get_flag("ignore-files"),
         label: matches.get_str("label").unwrap_or("(standard input)"),
         unnamed: matches.get_flag("no-filename"),
         silent: matches.get_flag("no-messages"),
+        progress: matches.get_flag("progress"),
         line_buffered: matches.get_flag("line-buffered"),
         patterns,
         pattern_files,

@@ -1,7 +1,7 @@
 //! Globs, as a shell has them: their parts, and the names that they match.
 ghost use Rattle.std.specs.Prelude.{◌≡◌, ◌≤◌, ◌<◌, ◌++◌, IfOk, IfSome, OnOk, false, length, map, option_map, position};
 ghost use Rattle.std.specs.Str.{chars};
-ghost use Rattle.grep_options.specs.Globs.{letters_after, means, negation, part_at, part_of, parts_after};
+ghost use Rattle.grep_options.specs.Globs.{has_open_set, is_open_set, letters_after, means, negation, part_at, part_of, parts_after};
 ghost use Rattle.grep_options.specs.Globs.{set_after, set_letters, set_or_bracket};
 
 use std::alloc::{AllocError, Global};
@@ -102,6 +102,27 @@ fn push_tokens<'g>(
             push_tokens(more, others, tokens)
         }
     }
+}
+
+/// Returns whether one of these characters without the first ones is a bracket that no other one ends.
+pub fn has_open_set(skipped: usize, letters: &[Letter]) -> bool
+    ensures { result ≡ has_open_set skipped letters.now }
+{
+    match letters {
+        [] => false,
+        [_, others @ ..] if skipped > 0 => has_open_set(skipped - 1, others),
+        [first, others @ ..] => {
+            let (_, more) = token_at(*first, others);
+            is_open_set(*first, others) || has_open_set(more, others)
+        }
+    }
+}
+
+/// Returns whether this character is a bracket, and none of the next ones ends its set.
+fn is_open_set(letter: Letter, letters: &[Letter]) -> bool
+    ensures { result ≡ is_open_set letter letters.now }
+{
+    letter.means('[') && set_letters(&letters[negation(letters)..]).is_none()
 }
 
 /// Returns the part that begins with this character, and how many of the next ones belong to it.

@@ -163,4 +163,6 @@ pub struct Request<'n> {
     pub context: Context<'n>,
     /// Some line of an input before this one was selected.
     pub used: bool,
+    /// A line on standard error says how far the search is, and is erased before a message.
+    pub progress: bool,
 }

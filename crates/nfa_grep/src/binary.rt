@@ -6,6 +6,7 @@ ghost use Rattle.nfa_grep.specs.Printed.{summary};
 
 use crate::grep::Grep;
 use crate::line::append_summary;
+use crate::progress::erase_line;
 use crate::search::print_matches;
 use grep_options::options::{BinaryFiles, Options, Report, Request};
 use std::alloc::Global;
@@ -37,6 +38,9 @@ pub fn search_input<R: BufRead, W: Write>(
     };
     let count = print_matches(rt.alloc(), grep, quiet, input, out)?;
     if count > 0 {
+        if request.progress {
+            erase_line(rt);
+        }
         // The status says so even if the line cannot be written.
         let _ = eprintln!(rt; "nfa_grep: {name}: binary file matches");
     }

@@ -2,6 +2,8 @@
 use crate::fault::Fault;
 use crate::grep::Grep;
 use crate::input::search_named;
+use crate::progress::Progress;
+use crate::walk::Walk;
 use grep_options::chosen::{Step, is_passed, step_of};
 use grep_options::command::Arguments;
 use grep_options::marked::{is_marked, without_mark};
@@ -9,7 +11,7 @@ use grep_options::options::{Context, Options, Report, Request, When};
 use grep_options::output::is_output;
 use grep_options::patterns::{all_patterns, read_files};
 use grep_options::syntax::need_same;
-use grep_options::walk::{is_folder, push_paths};
+use grep_options::walk::is_folder;
 use std::env::FillError;
 use std::io::{BufWriter, IsTerminal, Write};
 use std::rt::Env;
@@ -22,6 +24,9 @@ const NOT_TEXT: &str = "cannot read the input: its name is not UTF-8";
 /// Why an input was not searched: it would have what was printed.
 const IS_OUTPUT: &str = "input file is also the output";
 
+/// Why what a folder has may be searched although it is to be left out.
+const NO_RULES: &str = "cannot read its .gitignore";
+
 /// Why a folder was not searched again, in itself.
 const IS_LOOP: &str = "warning: recursive directory loop";
 
@@ -32,6 +37,8 @@ pub struct Outcome {
     pub selected: bool,
     /// Some input was not searched to its end.
     pub failed: bool,
+    /// How many inputs were searched, which may be shown.
+    progress: Progress,
 }
 
 /// Searches the inputs that the arguments name, in order. An input that cannot be read, or that has a line for which
@@ -56,19 +63,22 @@ fn search_for(
         ..arguments.options
     };
     let mut grep = Grep::new(rt.alloc(), patterns, options)?;
+    let begin = Outcome {
+        selected: false,
+        failed: false,
+        progress: Progress::new(rt, arguments.progress),
+    };
     // No line can be selected, so no input is read.
     if arguments.limit == 0 && arguments.report != Report::Without {
-        return Ok(Outcome {
-            selected: false,
-            failed: false,
-        });
+        return Ok(begin);
     }
     let outcome = if arguments.line_buffered || rt.stdout().is_terminal() {
-        search_all(rt, &mut grep, arguments, &mut io::writer(rt))?
+        search_all(rt, &mut grep, arguments, begin, &mut io::writer(rt))
     } else {
-        search_buffered(rt, &mut grep, arguments)?
+        search_buffered(rt, &mut grep, arguments, begin)
     };
-    Ok(outcome)
+    begin.progress.erase(rt);
+    Ok(outcome?)
 }
 
 /// Returns whether colours are printed. A terminal has colours, unless its type is not known or `dumb`.
@@ -106,11 +116,12 @@ fn search_buffered(
     rt: &HostRuntime,
     grep: &mut Grep<'_>,
     arguments: &Arguments<'_>,
+    begin: Outcome,
 ) -> Result<Outcome, Failure> {
     let Ok(mut out) = BufWriter::new(rt.alloc(), io::writer(rt)) else {
         return Err(Failure::Memory);
     };
-    let outcome = search_all(rt, grep, arguments, &mut out)?;
+    let outcome = search_all(rt, grep, arguments, begin, &mut out)?;
     match out.flush() {
         Ok(()) => Ok(outcome),
         Err(error) => Err(Failure::Write(error)),
@@ -123,14 +134,15 @@ fn search_all<W: Write>(
     rt: &HostRuntime,
     grep: &mut Grep<'_>,
     arguments: &Arguments<'_>,
+    begin: Outcome,
     out: &mut W,
 ) -> Result<Outcome, Failure> {
     if !arguments.files.is_empty() {
-        search_each(rt, grep, arguments, &arguments.files, out)
+        search_each(rt, grep, arguments, &arguments.files, begin, out)
     } else if arguments.recurses() {
-        search_each(rt, grep, arguments, &["."], out)
+        search_each(rt, grep, arguments, &["."], begin, out)
     } else {
-        search_each(rt, grep, arguments, &["-"], out)
+        search_each(rt, grep, arguments, &["-"], begin, out)
     }
 }
 
@@ -140,12 +152,10 @@ fn search_each<W: Write>(
     grep: &mut Grep<'_>,
     arguments: &Arguments<'_>,
     names: &[&str],
+    begin: Outcome,
     out: &mut W,
 ) -> Result<Outcome, Failure> {
-    let mut outcome = Outcome {
-        selected: false,
-        failed: false,
-    };
+    let mut outcome = begin;
     for name in names {
         search_name(rt, grep, arguments, name, &mut outcome, out)?;
         if is_over(arguments, outcome) {
@@ -193,16 +203,16 @@ fn search_folder<W: Write>(
     outcome: &mut Outcome,
     out: &mut W,
 ) -> Result<(), Failure> {
-    let mut paths = Vec::new(rt.alloc());
-    push_folder(rt, arguments, folder, &mut paths, outcome);
+    let mut walk = Walk::new(rt.alloc(), folder, arguments.ignoring);
+    push_folder(rt, arguments, folder, &mut walk, outcome);
     for _ in 0..u64::MAX {
         if is_over(arguments, *outcome) {
             return Ok(());
         }
-        let Some(path) = paths.pop() else {
+        let Some(path) = walk.next() else {
             return Ok(());
         };
-        if enter(rt, arguments, folder, path.as_str(), &mut paths, outcome) {
+        if enter(rt, arguments, path.as_str(), &mut walk, outcome)? {
             search_one(rt, grep, arguments, path.as_str(), outcome, out)?;
         }
     }
@@ -213,34 +223,39 @@ fn search_folder<W: Write>(
 fn enter(
     rt: &HostRuntime,
     arguments: &Arguments<'_>,
-    folder: &str,
     path: &str,
-    paths: &mut Vec<String>,
+    walk: &mut Walk<'_>,
     outcome: &mut Outcome,
-) -> bool {
+) -> Result<bool, Failure> {
+    if walk.leaves_out(rt, path)? {
+        return Ok(false);
+    }
     if is_marked(path) {
         name_fault(rt, arguments, path, NOT_TEXT, outcome);
-        return false;
+        return Ok(false);
     }
-    match step_of(rt, arguments, folder, path) {
-        Ok(Step::Search) => return true,
-        Ok(Step::Enter) => push_folder(rt, arguments, path, paths, outcome),
-        Ok(Step::Loop) => say(rt, arguments, path, IS_LOOP),
+    match step_of(rt, arguments, walk.top(), path) {
+        Ok(Step::Search) => return Ok(true),
+        Ok(Step::Enter) => push_folder(rt, arguments, path, walk, outcome),
+        Ok(Step::Loop) => say(rt, arguments, path, IS_LOOP, outcome.progress),
         Ok(Step::Pass) => {}
         Err(error) => name_fault(rt, arguments, path, Failure::Read(error), outcome),
     }
-    false
+    Ok(false)
 }
 
-/// Pushes the paths in the folder. It is named on standard error if they cannot be read.
+/// Pushes the paths in the folder. It is named on standard error if they, or its rules, cannot be read.
 fn push_folder(
     rt: &HostRuntime,
     arguments: &Arguments<'_>,
     folder: &str,
-    paths: &mut Vec<String>,
+    walk: &mut Walk<'_>,
     outcome: &mut Outcome,
 ) {
-    if let Err(error) = push_paths(rt, folder, paths) {
+    if walk.read_rules(rt, folder).is_err() {
+        name_fault(rt, arguments, folder, NO_RULES, outcome);
+    }
+    if let Err(error) = walk.push_folder(rt, folder) {
         name_fault(rt, arguments, folder, Failure::Read(error), outcome);
     }
 }
@@ -263,12 +278,14 @@ fn search_one<W: Write>(
             ..arguments.context
         },
         used: outcome.selected,
+        progress: outcome.progress.is_shown(),
     };
     // A search that ends at its first line, or that prints less, does not read what it prints.
     if request.report.shows() && request.limit > 1 && is_output(rt, name) {
         name_fault(rt, arguments, name, IS_OUTPUT, outcome);
         return Ok(());
     }
+    outcome.progress.begin(rt, request.name);
     match search_named(rt, grep, arguments.binary, request, name, out) {
         Ok(count) => outcome.selected |= count > 0,
         Err(error) => {
@@ -290,12 +307,19 @@ fn name_fault<E: fmt::Display + Drop>(
     outcome: &mut Outcome,
 ) {
     outcome.failed = true;
-    say(rt, arguments, name, error);
+    say(rt, arguments, name, error, outcome.progress);
 }
 
 /// Says this of an input on standard error, if that is wanted.
-fn say<E: fmt::Display + Drop>(rt: &HostRuntime, arguments: &Arguments<'_>, name: &str, said: E) {
+fn say<E: fmt::Display + Drop>(
+    rt: &HostRuntime,
+    arguments: &Arguments<'_>,
+    name: &str,
+    said: E,
+    progress: Progress,
+) {
     if !arguments.silent {
+        progress.erase(rt);
         // The status says so even if the line cannot be written.
         let shown = shown_name(arguments, name);
         let _ = eprintln!(rt; "nfa_grep: {shown}: {said}");

@@ -13,7 +13,9 @@ mod line;
 mod needed;
 mod paint;
 mod pattern;
+mod progress;
 mod search;
+mod walk;
 mod which;
 
 use crate::fault::Fault;

@@ -126,6 +126,14 @@ pub const NAMES: &[Entry] = &[
         rivals: &[],
         help: "Do not name files that cannot be read",
     },
+    Entry {
+        name: "progress",
+        letter: None,
+        also: Also::Nothing,
+        takes: Takes::Nothing,
+        rivals: &[],
+        help: "Show how many files were searched, if standard error is a terminal and the output is not",
+    },
 ];
 
 /// The option that says when colours are printed, and that for the help.

@@ -202,6 +202,14 @@ pub const FILES: &[Entry] = &[
         rivals: &[],
         help: "Do not search folders whose names match this",
     },
+    Entry {
+        name: "ignore-files",
+        letter: None,
+        also: Also::Nothing,
+        takes: Takes::Nothing,
+        rivals: &[],
+        help: "In folders, do not search .git, and what the .gitignore files in them name",
+    },
 ];
 
 /// The options that say what is done with files that are not text, with folders and with devices.

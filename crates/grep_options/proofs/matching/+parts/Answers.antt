@@ -7,15 +7,15 @@ use Rattle.grep_options.proofs.matching.+parts.Goals as goal
 
 pub outcome_of-returns-then-is_star-clause-short : goal.outcome_of-returns-then-is_star-clause-short
 outcome_of-returns-then-is_star-clause-short t c short =
-    short_after_star (map part_of c.args.tokens.now)
-    (map part_of (take (length c.args.tokens.now - 1) (drop 1 c.args.tokens.now)))
+    short_after_star (parts_match (map part_of c.args.tokens.now))
+    (parts_match (map part_of (take (length c.args.tokens.now - 1) (drop 1 c.args.tokens.now))))
     (parts_with_star c.args.tokens.now (token.Is 0) c.in-len1-up.len_at_least (sym c.if-is_star.ensures))
     c.args.text.now (short_is_none _ _ c.outcome_of_rests.ensures short)
 
 pub outcome_of-returns-then-takes-clause-short : goal.outcome_of-returns-then-takes-clause-short
 outcome_of-returns-then-takes-clause-short t c short =
-    short_after_first (map part_of c.args.tokens.now)
-    (map part_of (take (length c.args.tokens.now - 1) (drop 1 c.args.tokens.now)))
+    short_after_first (parts_match (map part_of c.args.tokens.now))
+    (parts_match (map part_of (take (length c.args.tokens.now - 1) (drop 1 c.args.tokens.now))))
     (takes (part_of (get_or c.args.tokens.now 0 (token.Is 0))))
     (parts_with_first c.args.tokens.now (token.Is 0) c.in-len1-up.len_at_least (sym c.if-is_star.ensures))
     c.args.text.now c.in-len1-up-text.len_at_least (c.outcome_of.ensures.short short)
