@@ -113,7 +113,7 @@ pub enum Report {
 
 impl Report {
     ghost use Rattle.std.specs.Prelude.{◌≡◌};
-    ghost use Rattle.grep_options.specs.Reports.{context_of, limit_of, shows};
+    ghost use Rattle.grep_options.specs.Reports.{limit_of, shows};
 
     /// Returns whether selected lines are printed.
     pub fn shows(self) -> bool
@@ -130,22 +130,6 @@ impl Report {
         match self {
             Report::Lines | Report::Count => limit,
             Report::With | Report::Without | Report::Nothing => limit.min(1),
-        }
-    }
-
-    /// Returns which lines around a selected one are printed: none if no lines are.
-    pub fn context<'s>(self, context: Context<'s>) -> Context<'s>
-        ensures { result ≡ context_of self context.entry }
-    {
-        if self.shows() {
-            return context;
-        }
-        Context {
-            before: 0,
-            after: 0,
-            separated: false,
-            coloured: false,
-            separator: context.separator,
         }
     }
 }

@@ -1,16 +1,16 @@
 -- Counting goes on by lines, and ends where the limit is reached, or nothing is left to read.
 use Rattle.bstr.specs.Records.{records}
-use Rattle.nfa_paths.proofs.Common.{Appends-nil, Keeps, Keeps-refl, ◌≡◌, ◌∙◌, ℕ, ◌+◌, ◌-◌, ◌<◌, Bool, false, true, All, inl, inr, List, [], ◌∷◌, ◌++◌, length, refl, sym, ap, arith, append_assoc, append-nil, length-append, Option, None, Some, IfSome, IfSome_then, concat, cond, count_by, drop, ◌==◌, common_steps, cases_Bool, ne_eqb, All-head, All-tail, sum_by-append, sum_by-cons, true≢false, zero-add}
+use Rattle.nfa_paths.proofs.Common.{Appends-nil, Keeps, Keeps-refl, ◌≡◌, ◌∙◌, ℕ, ◌+◌, ◌-◌, ◌<◌, Bool, false, true, All, inl, inr, List, [], ◌∷◌, ◌++◌, length, refl, sym, ap, arith, append_assoc, append-nil, length-append, Option, None, Some, IfSome, IfSome_then, concat, cond, count_by, drop, ◌==◌, cases_Bool, ne_eqb, All-head, All-tail, sum_by-append, sum_by-cons, true≢false, zero-add}
 use Rattle.std.proofs.lemmas.List.Folds.{concat-append}
 use Rattle.std.specs.Io.KnownBytes.{Consumes}
 use Rattle.text_lines.specs.Lines.{HasNoRecord, IsRecord, PassesRecords, TakesRecord}
 use Rattle.text_lines.specs.declared.passed.Passed.{Passed}
 use Rattle.text_lines.proofs.LineLemmas.{text-of-first}
 use Rattle.nfa_grep.specs.Counted.{AreCounted, Counted, CountsLines, HasCounted, IsCounted, IsCounting}
-use Rattle.nfa_grep.specs.Going.{PrintsLines}
+use Rattle.nfa_grep.specs.Going.{PrintsLines, PrintsReport}
 use Rattle.nfa_grep.specs.Meant.{Options, Re}
 use Rattle.grep_options.specs.declared.options.Report.TheVariants.{Lines, Count, With, Without, Nothing}
-use Rattle.nfa_grep.specs.Printed.{Context, IsNeeded, Report, context_of, fewer, grouped, is_selected, items, read, searched, selected_count, shows}
+use Rattle.nfa_grep.specs.Printed.{Context, IsNeeded, Report, context_of, limit_of, fewer, is_selected, read, searched, selected_count, shows}
 use Rattle.nfa_grep.proofs.NeededLemmas.{lacking}
 
 module _ (options : Options) (res : List Re) where
@@ -230,33 +230,37 @@ read-searched options res context n [] none = refl
 read-searched options res context n (line ∷ lines) none =
     grind (arith, none, read-searched options res context (fewer n (is_selected options res line)) lines)
 
--- nothing is printed of lines that are not wanted
-none-shown-of : (options : Options) (res : List Re) (name : List ℕ) (context : Context) → context.separated ≡ false
-    → (lines : List (List ℕ)) (used gap : Bool) (left n number offset : ℕ)
-    → grouped context used gap left (items false options res name n number offset lines) ≡ []
-unfolding items grouped
-none-shown-of options res name context none [] used gap left n number offset = refl
-none-shown-of options res name context none (line ∷ lines) used gap left n number offset =
-    grind (arith, none, common_steps, none-shown-of options res name context none lines)
-
--- where no line is printed, none is after a selected one, and no separator is between groups
-pub hides : (report : Report) (context : Context) → shows report ≡ false
-    → ((context_of report context).after ≡ 0) × ((context_of report context).separated ≡ false)
-hides Lines context hidden = absurd (true≢false hidden)
-hides Count context hidden = (refl, refl)
-hides With context hidden = (refl, refl)
-hides Without context hidden = (refl, refl)
-hides Nothing context hidden = (refl, refl)
-
 -- where no line is printed, to count is all
-pub counts-print : (options : Options) (res : List Re) (name : List ℕ) (context : Context) (used : Bool) (limit : ℕ)
-    (before left out : Option (List ℕ)) (count : ℕ) → context.after ≡ 0 → context.separated ≡ false
-    → CountsLines options res limit before left count
-    → PrintsLines false options res name context used limit before left out out count
-counts-print options res name context used limit before left out count none apart counts =
+pub counts-report : (report : Report) (options : Options) (res : List Re) (name : List ℕ) (context : Context)
+    (used : Bool) (limit : ℕ) (before left out : Option (List ℕ)) (count : ℕ) → shows report ≡ false
+    → CountsLines options res (limit_of report limit) before left count
+    → PrintsReport report options res name context used limit before left out out count
+counts-report report options res name context used limit before left out count hidden counts =
     IfSome_then before counts (λ text counted. (
-      rw (none-shown-of options res name context apart (records options.end text) used true 0 limit 1 0)
-          (Appends-nil out),
+      rw hidden (Appends-nil out),
       counted.0,
-      rw (read-searched options res context limit (records options.end text) none) counted.1,
+      rw (read-searched options res (context_of report context) (limit_of report limit) (records options.end text)
+          (none-after report hidden)) counted.1,
     ))
+  where
+    none-after : (r : Report) → shows r ≡ false → (context_of r context).after ≡ 0
+    none-after Lines hidden = absurd (true≢false hidden)
+    none-after Count hidden = refl
+    none-after With hidden = refl
+    none-after Without hidden = refl
+    none-after Nothing hidden = refl
+
+-- where lines are printed, they are printed as they are asked for
+pub prints-report : (report : Report) (options : Options) (res : List Re) (name : List ℕ) (context : Context)
+    (used : Bool) (limit : ℕ) (before left out after : Option (List ℕ)) (count : ℕ) → shows report ≡ true
+    → PrintsLines options res name context used limit before left out after count
+    → PrintsReport report options res name context used limit before left out after count
+prints-report Lines options res name context used limit before left out after count shown prints = prints
+prints-report Count options res name context used limit before left out after count shown prints =
+    absurd (true≢false (sym shown))
+prints-report With options res name context used limit before left out after count shown prints =
+    absurd (true≢false (sym shown))
+prints-report Without options res name context used limit before left out after count shown prints =
+    absurd (true≢false (sym shown))
+prints-report Nothing options res name context used limit before left out after count shown prints =
+    absurd (true≢false (sym shown))

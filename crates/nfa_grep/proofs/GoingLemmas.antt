@@ -32,10 +32,10 @@ none-later groups order = of groups.left groups.used groups.gap (kept_texts grou
         rw none (none-printed groups.context used gap (kept_items texts ++ []) (kept-none texts [] refl))
     of left used gap texts (inr here) = rw (here.0) refl
 
-module _ (wanted : Bool) (options : Options) (res : List Re) (name : List ℕ) (context : Context) where
+module _ (options : Options) (res : List Re) (name : List ℕ) (context : Context) where
   -- what is left to print, to select and to read of these lines
   abbrev left_items : ℕ → ℕ → ℕ → List (List ℕ) → List Item
-  left_items n number offset lines = items wanted options res name n number offset lines
+  left_items n number offset lines = items options res name n number offset lines
 
   abbrev left_count : ℕ → List (List ℕ) → ℕ
   left_count n lines = count_by (is_selected options res) (searched options res n lines)
@@ -70,7 +70,7 @@ module _ (wanted : Bool) (options : Options) (res : List Re) (name : List ℕ) (
 
   goes-line : (n left number offset : ℕ) (line : List ℕ) (lines : List (List ℕ)) (b : Bool)
       → is_picked options res n line ≡ b → ((n == 0) && (left == 0)) ≡ false
-      → Goes n left number offset (line ∷ []) lines (item_of wanted options res name number offset b line ∷ [])
+      → Goes n left number offset (line ∷ []) lines (item_of options res name number offset b line ∷ [])
       (cond b 1 0) (fewer n b) (left_after context left b) (number + 1) (offset + length line)
   unfolding items searched read
   goes-line n left number offset line lines b picked more =
@@ -117,7 +117,7 @@ module _ (wanted : Bool) (options : Options) (res : List Re) (name : List ℕ) (
       let left-is : left ≡ 0 = far (omega arith) in
       let same : left - 1 ≡ left = omega arith in
       let picked : is_picked options res n line ≡ false = rw (All-head IsPassed line passed none) (of (n == 0)) in
-      let item = item_of wanted options res name number offset false line in
+      let item = item_of options res name number offset false line in
       let first = goes-line n left number offset line (passed ++ lines) false picked more in
       let later = passed-over n left (number + 1) (offset + length line) passed lines next-number next-offset more
       (λ _. left-is) (All-tail IsPassed line passed none) (omega (arith, number-is))
@@ -137,11 +137,11 @@ module _ (wanted : Bool) (options : Options) (res : List Re) (name : List ℕ) (
       of : (b : Bool) → (if b then false else false) ≡ false
       of b = grind arith
 
-module _ (wanted : Bool) (options : Options) (res : List Re) (name : List ℕ) (context : Context) (used : Bool)
+module _ (options : Options) (res : List Re) (name : List ℕ) (context : Context) (used : Bool)
     (limit : ℕ) where
   pub going-init : (input out : Option (List ℕ)) (groups : Groups)
       → ((later : List Item) → printed_later groups later ≡ grouped context used true 0 later) → groups.left ≡ 0
-      → IfSome input (λ text. IsGoing wanted options res name context used limit text input out out 1 0 0 groups)
+      → IfSome input (λ text. IsGoing options res name context used limit text input out out 1 0 0 groups)
   going-init None out groups is none = tt
   going-init (Some text) out groups is none =
       let whole : limit - 0 ≡ limit = omega arith in
@@ -158,18 +158,18 @@ module _ (wanted : Bool) (options : Options) (res : List Re) (name : List ℕ) (
       }
 
 -- the bytes are known, and the lines so far were printed
-module _ {wanted : Bool} {options : Options} {res : List Re} {name : List ℕ} {context : Context} {used : Bool}
+module _ {options : Options} {res : List Re} {name : List ℕ} {context : Context} {used : Bool}
     {limit : ℕ} {text : List ℕ} {input out-before out : Option (List ℕ)} {number offset count : ℕ} {old : Groups}
-    (going : IsGoing wanted options res name context used limit text input out-before out number offset count old)
+    (going : IsGoing options res name context used limit text input out-before out number offset count old)
   where
     -- more lines were read, and what is printed then was written
     going-on : (after next : Option (List ℕ)) (here : List (List ℕ)) (own : List Item) (written : List ℕ) (new : Groups)
         (next-number next-offset next-count selected : ℕ) (first : AreFirstRecords options.end going.rest after here)
-        → Goes wanted options res name context (limit - count) old.left number offset here
+        → Goes options res name context (limit - count) old.left number offset here
         (records options.end first.rest) own selected (limit - next-count) new.left next-number next-offset
         → next-count ≡ count + selected → Appends out next written
         → ((later : List Item) → printed_later old (own ++ later) ≡ written ++ printed_later new later)
-        → IsGoing wanted options res name context used limit text after out-before next next-number next-offset
+        → IsGoing options res name context used limit text after out-before next next-number next-offset
         next-count new
     going-on after next here own written new next-number next-offset next-count selected first goes counted appends
         prints =
@@ -192,22 +192,22 @@ module _ {wanted : Bool} {options : Options} {res : List Re} {name : List ℕ} {
         → (not (nat_lt count limit) && (old.left == 0)) ≡ false
         → b ≡ (if nat_lt count limit then is_selected options res line else false)
         → TakesRecord options.end input after line → Appends out middle ahead → Appends middle next here
-        → ((later : List Item) → printed_later old (item_of wanted options res name number offset b line ∷ later)
+        → ((later : List Item) → printed_later old (item_of options res name number offset b line ∷ later)
         ≡ (ahead ++ here) ++ printed_later new later)
         → new.left ≡ left_after context old.left b
-        → IsGoing wanted options res name context used limit text after out-before next (number + 1)
+        → IsGoing options res name context used limit text after out-before next (number + 1)
         (offset + length line) (cond b (count + 1) count) new
     going-step after middle next line ahead here new b more selected takes first-part second-part prints left-is =
         let first = rw going.rest_is at takes in
         let n = limit - count in
-        let item = item_of wanted options res name number offset b line in
+        let item = item_of options res name number offset b line in
         let picked : is_picked options res n line ≡ b =
         rw (none-left count limit, selected) (of (nat_lt count limit) (is_selected options res line)) in
         let fewer-is : fewer n b ≡ limit - (cond b (count + 1) count) = rest-of b in
         let more-here : ((n == 0) && (old.left == 0)) ≡ false = rw (none-left count limit) more in
         going-on after next (line ∷ []) (item ∷ []) (ahead ++ here) new (number + 1) (offset + length line)
         (cond b (count + 1) count) (cond b 1 0) first
-        (rw (← fewer-is, left-is) (goes-line wanted options res name context n old.left number offset line
+        (rw (← fewer-is, left-is) (goes-line options res name context n old.left number offset line
         (records options.end first.rest) b picked more-here))
         (added b) (Appends-trans out middle next ahead here first-part second-part) prints
       where
@@ -223,20 +223,20 @@ module _ {wanted : Bool} {options : Options} {res : List Re} {name : List ℕ} {
 
     -- the next line was taken, and what is printed then was written
     pub going-take : (after middle last : Option (List ℕ)) (place : Place) (new : Groups) (taken : Taken)
-        → place.name.now ≡ name → place.number ≡ number → place.offset ≡ offset → old.wanted ≡ wanted
+        → place.name.now ≡ name → place.number ≡ number → place.offset ≡ offset
         → old.context ≡ context → (not (nat_lt count limit) && (old.left == 0)) ≡ false
         → TakesNext options res place (nat_lt count limit) old new input after (Some taken)
         → Appends out middle new.ahead.items → Appends middle last new.text.items
-        → IsGoing wanted options res name context used limit text after out-before last taken.next.number
+        → IsGoing options res name context used limit text after out-before last taken.next.number
         taken.next.offset (cond taken.selected (count + 1) count) new
-    going-take after middle last place new taken name-is number-is offset-is wanted-is context-is more (line, is, takes)
+    going-take after middle last place new taken name-is number-is offset-is context-is more (line, is, takes)
         first-part second-part =
         let b : Bool = taken.selected in
         let number-next : taken.next.number ≡ number + 1 = omega (arith, takes.number_is, number-is) in
         let offset-next : taken.next.offset ≡ offset + length line = omega (arith, takes.offset_is, offset-is) in
-        let prints : (later : List Item) → printed_later old (item_of wanted options res name number offset b line
+        let prints : (later : List Item) → printed_later old (item_of options res name number offset b line
         ∷ later) ≡ (new.ahead.items ++ new.text.items) ++ printed_later new later =
-        rw (wanted-is, name-is, number-is, offset-is) at takes.printed_is in
+        rw (name-is, number-is, offset-is) at takes.printed_is in
         let left-is : new.left ≡ left_after context old.left b = rw context-is at takes.left_is in
         rw (number-next, offset-next) (going-step after middle last line new.ahead.items new.text.items new b more
         takes.selected_is is first-part second-part prints left-is)
@@ -245,28 +245,28 @@ module _ {wanted : Bool} {options : Options} {res : List Re} {name : List ℕ} {
     pub going-pass : (after : Option (List ℕ)) (at next : LineStart) (new : Groups) → number ≡ at.number
         → offset ≡ at.offset → (not (nat_lt count limit) && (old.left == 0)) ≡ false → new.left ≡ old.left
         → IfSome input (λ text. HasPassed options res text after at next old new)
-        → IsGoing wanted options res name context used limit text after out-before out next.number next.offset count new
+        → IsGoing options res name context used limit text after out-before out next.number next.offset count new
     going-pass after at next new number-is offset-is more left-is passes =
         let passed =
         subst (λ (o : Option (List ℕ)). IfSome o (λ text. HasPassed options res text after at next old new))
         going.rest_is passes in
         let more-here : (((limit - count) == 0) && (old.left == 0)) ≡ false = rw (none-left count limit) more in
         let lines = records options.end passed.first.rest in
-        let over = passed-over wanted options res name context (limit - count) old.left number offset passed.lines lines
+        let over = passed-over options res name context (limit - count) old.left number offset passed.lines lines
         next.number next.offset more-here passed.none_left passed.unselected
         (omega (arith, number-is, passed.number_is)) (omega (arith, offset-is, passed.offset_is)) in
-        let goes = subst (λ (left : ℕ). Goes wanted options res name context (limit - count) old.left number offset
+        let goes = subst (λ (left : ℕ). Goes options res name context (limit - count) old.left number offset
         passed.lines lines over.own 0 (limit - count) left next.number next.offset) (sym left-is) over.goes in
         going-on after out passed.lines over.own [] new next.number next.offset count 0 passed.first goes (omega arith)
         (Appends-nil out) (passed.printed_is over.own over.as_many over.unselected)
 
     -- no line is left to read
     done : (after : Option (List ℕ)) → Keeps input after
-        → printed_later old (items wanted options res name (limit - count) number offset
+        → printed_later old (items options res name (limit - count) number offset
         (records options.end going.rest)) ≡ []
         → selected_count options res (limit - count) going.rest ≡ 0
         → concat (read options res context (limit - count) old.left (records options.end going.rest)) ≡ []
-        → PrintsLines wanted options res name context used limit (Some text) after out-before out count
+        → PrintsLines options res name context used limit (Some text) after out-before out count
     done after keeps no-items no-count no-lines = (
       rw (going.printed_is, no-items, append-nil going.written) going.writes,
       omega (arith, going.count_is, no-count),
@@ -283,7 +283,7 @@ module _ {wanted : Bool} {options : Options} {res : List Re} {name : List ℕ} {
 
     -- nothing was left to read
     pub going-end : (after : Option (List ℕ)) → HasNoRecord options.end input → Keeps input after → IsInOrder old
-        → PrintsLines wanted options res name context used limit (Some text) after out-before out count
+        → PrintsLines options res name context used limit (Some text) after out-before out count
     unfolding items searched read
     going-end after end keeps order =
         let none = rw going.rest_is at end in
@@ -291,15 +291,15 @@ module _ {wanted : Bool} {options : Options} {res : List Re} {name : List ℕ} {
 
     -- the limit is reached, and no line is left to print
     pub going-stop : (not (nat_lt count limit) && (old.left == 0)) ≡ true
-        → PrintsLines wanted options res name context used limit (Some text) input out-before out count
+        → PrintsLines options res name context used limit (Some text) input out-before out count
     going-stop over =
         let parts = and_parts (not (nat_lt count limit)) (old.left == 0) over in
         let reached : limit ≤ count = ltb-false count limit (not-true (nat_lt count limit) parts.0) in
         let left-is : old.left ≡ 0 = eqb-true old.left 0 parts.1 in
         let none : limit - count ≡ 0 = omega (arith, reached) in
         let lines = records options.end going.rest in
-        let none-selected = kept-none (kept_texts old) (items wanted options res name 0 number offset lines)
-        (items-none wanted options res name context number offset lines) in
+        let none-selected = kept-none (kept_texts old) (items options res name 0 number offset lines)
+        (items-none options res name context number offset lines) in
         done input (Keeps-refl input) (rw (none, left-is) (none-printed old.context old.used old.gap _ none-selected))
-        (rw none (count-none wanted options res name context 0 lines refl))
-        (rw (none, left-is) (read-none wanted options res name context lines))
+        (rw none (count-none options res name context 0 lines refl))
+        (rw (none, left-is) (read-none options res name context lines))

@@ -5,7 +5,7 @@ use Rattle.bstr.specs.Records.{records}
 use Rattle.nfa_paths.specs.Common.{concat, Appends}
 use Rattle.text_lines.specs.Lines.{AreFirstRecords, HasNoRecord, TakesRecord}
 use Rattle.nfa_grep.specs.Meant.{Options, Re}
-use Rattle.nfa_grep.specs.Printed.{Context, Item, Report, context_of, grouped, is_selected, item_of, items, left_after, limit_of, output, printed, read, read_in, selected_count}
+use Rattle.nfa_grep.specs.Printed.{Context, Item, Report, context_of, grouped, is_selected, item_of, items, left_after, limit_of, output, printed, printed_if, read, read_in, selected_count}
 pub use Rattle.nfa_grep.specs.declared.groups.Groups.{Groups}
 pub use Rattle.nfa_grep.specs.declared.line.Place.{Place}
 pub use Rattle.nfa_grep.specs.declared.search.LineStart.{LineStart}
@@ -31,11 +31,10 @@ printed_later groups later =
     grouped groups.context groups.used groups.gap groups.left (kept_items (kept_texts groups) ++ later)
 
 -- No more lines are kept than are printed before one that is selected, and none while lines are printed after one: then
--- some line was printed, and the last one was. Without lines to print there is nothing to keep.
+-- some line was printed, and the last one was.
 pub record IsInOrder (groups : Groups) : Type 0 where
   pub within : length (kept_texts groups) ≤ groups.context.before
   pub printing : (groups.left ≡ 0) ⊎ ((kept_texts groups ≡ []) × (groups.used ≡ true) × (groups.gap ≡ false))
-  pub unwanted : groups.wanted ≡ false → (groups.context.before ≡ 0) × (groups.context.after ≡ 0) × (groups.left ≡ 0)
 
 -- These lines were passed: none of them is selected, and the reader has the others left. Number and offset go on by
 -- them, and no line was still to be printed after a selected one. What is printed of as many lines that are not
@@ -59,7 +58,7 @@ module _ (options : Options) (res : List Re) (place : Place) (searched : Bool) (
     pub offset_is : taken.next.offset ≡ place.offset + length line
     pub selected_is : taken.selected ≡ (if searched then is_selected options res line else false)
     pub printed_is : (later : List Item)
-        → printed_later old (item_of old.wanted options res place.name.now place.number place.offset taken.selected line
+        → printed_later old (item_of options res place.name.now place.number place.offset taken.selected line
         ∷ later) ≡ (new.ahead.items ++ new.text.items) ++ printed_later new later
     pub left_is : new.left ≡ left_after old.context old.left taken.selected
 
@@ -69,7 +68,7 @@ module _ (options : Options) (res : List Re) (place : Place) (searched : Bool) (
   TakesNext before left (Some taken) =
       (line : List ℕ) × TakesRecord options.end before left line × TakesLine taken line
 
-module _ (wanted : Bool) (options : Options) (res : List Re) (name : List ℕ) (context : Context) (used : Bool)
+module _ (options : Options) (res : List Re) (name : List ℕ) (context : Context) (used : Bool)
     (limit : ℕ) where
   -- The bytes that are left to read are known. What was written, and what is printed of the lines that are left, is
   -- what is printed of the text. The lines that were selected, and those that are left to select, are as many as those
@@ -82,8 +81,8 @@ module _ (wanted : Bool) (options : Options) (res : List Re) (name : List ℕ) (
     pub writes : Appends out-before out written
     pub taken : List ℕ
     pub text_is : text ≡ taken ++ rest
-    pub printed_is : printed wanted options res name context used limit text ≡ written
-        ++ printed_later groups (items wanted options res name (limit - count) number offset
+    pub printed_is : printed options res name context used limit text ≡ written
+        ++ printed_later groups (items options res name (limit - count) number offset
         (records options.end rest))
     pub count_is : selected_count options res limit text ≡ count + selected_count options res (limit - count) rest
     pub read_is : concat (read_in options res context limit text)
@@ -94,12 +93,20 @@ module _ (wanted : Bool) (options : Options) (res : List Re) (name : List ℕ) (
   abbrev pub PrintsLines : Option (List ℕ) → Option (List ℕ) → Option (List ℕ) → Option (List ℕ) → ℕ → Type 0
   PrintsLines input-before input out-before out count =
       IfSome input-before (λ text.
-      Appends out-before out (printed wanted options res name context used limit text)
+      Appends out-before out (printed options res name context used limit text)
       × (count ≡ selected_count options res limit text)
       × StopsAfter text (read_in options res context limit text) input)
 
 module _ (report : Report) (options : Options) (res : List Re) (name : List ℕ) (context : Context) (used : Bool)
     (limit : ℕ) where
+  -- the same, if lines are printed; else they are counted
+  abbrev pub PrintsReport : Option (List ℕ) → Option (List ℕ) → Option (List ℕ) → Option (List ℕ) → ℕ → Type 0
+  PrintsReport input-before input out-before out count =
+      IfSome input-before (λ text.
+      Appends out-before out (printed_if report options res name context used limit text)
+      × (count ≡ selected_count options res (limit_of report limit) text)
+      × StopsAfter text (read_in options res (context_of report context) (limit_of report limit) text) input)
+
   -- what is to be printed of the text was printed, and `count` of the lines that were searched are selected
   abbrev pub PrintsOutput : Option (List ℕ) → Option (List ℕ) → Option (List ℕ) → ℕ → Type 0
   PrintsOutput input out-before out count =

@@ -143,17 +143,16 @@ pub record Item : Type 0 where
   pub text : List ℕ
 
 -- a line and what is printed of it
-abbrev pub item_of : Bool → Options → List Re → List ℕ → ℕ → ℕ → Bool → List ℕ → Item
-item_of wanted options res name number offset selected line =
-    record { selected = selected; text = if wanted then shown options res name number offset selected line else [] }
+abbrev pub item_of : Options → List Re → List ℕ → ℕ → ℕ → Bool → List ℕ → Item
+item_of options res name number offset selected line =
+    record { selected = selected; text = shown options res name number offset selected line }
 
 -- these lines, and what is printed of each: the first one has this number and starts at this offset
-unfoldable pub items : Bool → Options → List Re → List ℕ → ℕ → ℕ → ℕ → List (List ℕ) → List Item
-items wanted options res name limit number offset [] = []
-items wanted options res name limit number offset (line ∷ lines) =
-    item_of wanted options res name number offset (is_picked options res limit line) line
-    ∷ items wanted options res name (fewer limit (is_picked options res limit line)) (number + 1)
-    (offset + length line) lines
+unfoldable pub items : Options → List Re → List ℕ → ℕ → ℕ → ℕ → List (List ℕ) → List Item
+items options res name limit number offset [] = []
+items options res name limit number offset (line ∷ lines) =
+    item_of options res name number offset (is_picked options res limit line) line
+    ∷ items options res name (fewer limit (is_picked options res limit line)) (number + 1) (offset + length line) lines
 
 -- The lines of these that are read. After the selected line with which the limit is reached only those are that are
 -- printed because of it.
@@ -204,9 +203,14 @@ grouped context used gap left (item ∷ items) =
 
 -- What is printed of the lines of a text: of those that are selected, up to the limit, and of those around them. `used`
 -- says that some line of another text was printed before.
-abbrev pub printed : Bool → Options → List Re → List ℕ → Context → Bool → ℕ → List ℕ → List ℕ
-printed wanted options res name context used limit text =
-    grouped context used true 0 (items wanted options res name limit 1 0 (records options.end text))
+abbrev pub printed : Options → List Re → List ℕ → Context → Bool → ℕ → List ℕ → List ℕ
+printed options res name context used limit text =
+    grouped context used true 0 (items options res name limit 1 0 (records options.end text))
+
+-- the same, if lines are printed
+abbrev pub printed_if : Report → Options → List Re → List ℕ → Context → Bool → ℕ → List ℕ → List ℕ
+printed_if report options res name context used limit text =
+    if shows report then printed options res name context used limit text else []
 
 -- the name of the input, as a line, or with a byte 0 after it
 abbrev pub name_line : Options → List ℕ → List ℕ
@@ -229,5 +233,5 @@ summary Nothing options name count = []
 -- all that is printed of a text
 abbrev pub output : Report → Options → List Re → List ℕ → Context → Bool → ℕ → List ℕ → List ℕ
 output report options res name context used limit text =
-    printed (shows report) options res name (context_of report context) used (limit_of report limit) text
+    printed_if report options res name context used limit text
     ++ summary report options name (selected_count options res (limit_of report limit) text)

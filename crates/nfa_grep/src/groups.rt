@@ -4,7 +4,7 @@ ghost use Rattle.std.specs.Prelude.{length, true, ◌≤◌, ◌&&◌, ◌==◌,
 ghost use Rattle.std.specs.List.{flat_map};
 ghost use Rattle.regex_hir.specs.Re.{Re};
 ghost use Rattle.nfa_grep.specs.Going.{IsInOrder, kept_texts, printed_later};
-ghost use Rattle.nfa_grep.specs.Printed.{Item, between, context_of, grouped, left_after, is_selected, item_of, shows};
+ghost use Rattle.nfa_grep.specs.Printed.{Item, between, grouped, left_after, is_selected, item_of};
 ghost use Rattle.nfa_grep.specs.Meant.{Mean};
 
 use crate::grep::Grep;
@@ -18,8 +18,6 @@ use std::collections::VecDeque;
 #[derive(Drop)]
 pub struct Groups<'s> {
     alloc: Global,
-    /// Lines are printed.
-    pub wanted: bool,
     /// Which lines are printed around a selected one.
     pub context: Context<'s>,
     /// Some line was printed, of this input or of one before it.
@@ -39,17 +37,15 @@ pub struct Groups<'s> {
 impl<'s> Groups<'s> {
     /// Returns the groups of an input of which no line was taken.
     pub fn new(alloc: Global, request: Request<'s>) -> Groups<'s>
-        ensures wanted { result.wanted ≡ shows request.entry.report }
         ensures printed { (later : List Item) → printed_later result later
-            ≡ grouped (context_of request.entry.report request.entry.context) request.entry.used true 0 later }
-        ensures context { result.context ≡ context_of request.entry.report request.entry.context }
+            ≡ grouped request.entry.context request.entry.used true 0 later }
+        ensures context { result.context ≡ request.entry.context }
         ensures none_left { result.left ≡ 0 }
         ensures in_order { IsInOrder result }
     {
         Groups {
             alloc,
-            wanted: request.report.shows(),
-            context: request.report.context(request.context),
+            context: request.context,
             used: request.used,
             gap: true,
             left: 0,
@@ -83,7 +79,6 @@ impl<'s> Groups<'s> {
         ensures in_order { IsInOrder self.new }
         ensures none_left { self.new.left ≡ 0 }
         ensures same_context { self.new.context ≡ self.old.context }
-        ensures same_wanted { self.new.wanted ≡ self.old.wanted }
     {
         if count == 0 {
             return;
@@ -105,21 +100,19 @@ impl<'s> Groups<'s> {
         ensures selected { IfOk result (λ selected. (res : List Re) → Mean grep.old res
             → selected ≡ (if searched then is_selected grep.old.options res line.now else false)) }
         ensures printed { IfOk result (λ selected. (res : List Re) → Mean grep.old res → (later : List Item)
-            → printed_later self.old (item_of self.old.wanted grep.old.options res place.entry.name.now
+            → printed_later self.old (item_of grep.old.options res place.entry.name.now
             place.entry.number place.entry.offset selected line.now ∷ later)
             ≡ (self.new.ahead.items ++ self.new.text.items) ++ printed_later self.new later) }
         ensures left { IfOk result (λ selected. self.new.left
             ≡ left_after self.old.context self.old.left selected) }
         ensures in_order { OnOk result (IsInOrder self.new) }
         ensures same_context { self.new.context ≡ self.old.context }
-        ensures same_wanted { self.new.wanted ≡ self.old.wanted }
         ensures kept { grep.new ≡ grep.old }
     {
         self.ahead.clear();
         self.text.clear();
-        let wanted = self.wanted;
         let selected = if searched {
-            grep.take_line(wanted, place, line, &mut self.text)?
+            grep.append_line(place, line, &mut self.text)?
         } else {
             false
         };
@@ -140,7 +133,6 @@ impl<'s> Groups<'s> {
         ensures in_order { OnOk result (IsInOrder self.new) }
         ensures left { OnOk result (self.new.left ≡ self.old.context.after) }
         ensures same_context { self.new.context ≡ self.old.context }
-        ensures same_wanted { self.new.wanted ≡ self.old.wanted }
         ensures same_text { self.new.text ≡ self.old.text }
     {
         let context = self.context;
@@ -158,13 +150,12 @@ impl<'s> Groups<'s> {
         requires counted { place.offset + length line.now < 2 ^ 64 }
         requires in_order { IsInOrder self.old }
         ensures printed { OnOk result ((res : List Re) → Mean grep.old res → (later : List Item)
-            → printed_later self.old (item_of self.old.wanted grep.old.options res place.entry.name.now
+            → printed_later self.old (item_of grep.old.options res place.entry.name.now
             place.entry.number place.entry.offset false line.now ∷ later)
             ≡ self.new.text.items ++ printed_later self.new later) }
         ensures in_order { OnOk result (IsInOrder self.new) }
         ensures left { OnOk result (self.new.left ≡ self.old.left - 1) }
         ensures same_context { self.new.context ≡ self.old.context }
-        ensures same_wanted { self.new.wanted ≡ self.old.wanted }
         ensures same_ahead { self.new.ahead ≡ self.old.ahead }
         ensures kept { grep.new ≡ grep.old }
     {
@@ -195,7 +186,6 @@ impl<'s> Groups<'s> {
             ≡ printed_later self.new (record { selected = false; text = text } ∷ later) }
         ensures room { length (kept_texts self.new) < self.new.context.before }
         ensures same_context { self.new.context ≡ self.old.context }
-        ensures same_wanted { self.new.wanted ≡ self.old.wanted }
         ensures same_left { self.new.left ≡ self.old.left }
         ensures same_ahead { self.new.ahead ≡ self.old.ahead }
         ensures same_text { self.new.text ≡ self.old.text }

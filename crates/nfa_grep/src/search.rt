@@ -1,9 +1,8 @@
 //! The search of one input, line by line.
 ghost use Rattle.std.specs.Prelude.{◌≡◌, ◌+◌, ◌<◌, ◌^◌, IfOk, IfSome, List, OnOk};
 ghost use Rattle.regex_hir.specs.Re.{Re};
-ghost use Rattle.nfa_grep.specs.Going.{HasPassed, IsInOrder, PrintsLines, PrintsOutput, StopsInTime};
-ghost use Rattle.nfa_grep.specs.Going.{TakesLine, TakesNext};
-ghost use Rattle.nfa_grep.specs.Printed.{context_of, limit_of, shows};
+ghost use Rattle.nfa_grep.specs.Going.{HasPassed, IsInOrder, PrintsLines, PrintsOutput, PrintsReport};
+ghost use Rattle.nfa_grep.specs.Going.{StopsInTime, TakesLine, TakesNext};
 ghost use Rattle.nfa_grep.specs.Meant.{Mean};
 
 use crate::count::count_lines;
@@ -109,9 +108,8 @@ fn print_lines<R: BufRead, W: Write>(
     out: &mut W,
 ) -> Result<u64, Failure>
     ensures printed { IfOk result (λ count. (res : List Re) → Mean grep.old res
-        → PrintsLines (shows request.entry.report) grep.old.options res request.entry.name.now
-        (context_of request.entry.report request.entry.context) request.entry.used
-        (limit_of request.entry.report request.entry.limit) (R.remaining input.old) (R.remaining input.new)
+        → PrintsReport request.entry.report grep.old.options res request.entry.name.now request.entry.context
+        request.entry.used request.entry.limit (R.remaining input.old) (R.remaining input.new)
         (W.contents out.old) (W.contents out.new) count) }
     ensures kept { grep.new ≡ grep.old }
 {
@@ -122,7 +120,7 @@ fn print_lines<R: BufRead, W: Write>(
     }
 }
 
-/// The same, line by line.
+/// Prints what is to be printed of the lines of an input, if lines are printed, and returns how many are selected.
 ///
 /// The input is read a line at a time, but for lines that are passed, and a line is searched where the reader holds it.
 /// So the memory is bounded by what is printed of one line more than are printed before a selected one. After an error,
@@ -135,13 +133,12 @@ fn search<R: BufRead, W: Write>(
     out: &mut W,
 ) -> Result<u64, Failure>
     ensures printed { IfOk result (λ count. (res : List Re) → Mean grep.old res
-        → PrintsLines (shows request.entry.report) grep.old.options res request.entry.name.now
-        (context_of request.entry.report request.entry.context) request.entry.used
-        (limit_of request.entry.report request.entry.limit) (R.remaining input.old) (R.remaining input.new)
-        (W.contents out.old) (W.contents out.new) count) }
+        → PrintsLines grep.old.options res request.entry.name.now request.entry.context request.entry.used
+        request.entry.limit (R.remaining input.old) (R.remaining input.new) (W.contents out.old) (W.contents out.new)
+        count) }
     ensures kept { grep.new ≡ grep.old }
 {
-    let limit = request.report.limit(request.limit);
+    let limit = request.limit;
     let mut line = Vec::new(alloc);
     let mut groups = Groups::new(alloc, request);
     let mut count = 0;
@@ -182,7 +179,6 @@ fn pass_lines<R: BufRead>(
     ensures in_order { OnOk result (IsInOrder groups.new) }
     ensures same_left { OnOk result (groups.new.left ≡ groups.old.left) }
     ensures same_context { OnOk result (groups.new.context ≡ groups.old.context) }
-    ensures same_wanted { OnOk result (groups.new.wanted ≡ groups.old.wanted) }
 {
     let needed = grep.needed();
     if needed.is_empty() {
@@ -216,7 +212,6 @@ fn take_next<R: BufRead>(
         (R.remaining input.new) taken) }
     ensures in_order { OnOk result (IsInOrder groups.new) }
     ensures same_context { OnOk result (groups.new.context ≡ groups.old.context) }
-    ensures same_wanted { OnOk result (groups.new.wanted ≡ groups.old.wanted) }
     ensures kept { grep.new ≡ grep.old }
 {
     let held = match input.fill_buf() {
@@ -253,7 +248,6 @@ fn take_copy<R: BufRead>(
         (R.remaining input.new) taken) }
     ensures in_order { OnOk result (IsInOrder groups.new) }
     ensures same_context { OnOk result (groups.new.context ≡ groups.old.context) }
-    ensures same_wanted { OnOk result (groups.new.wanted ≡ groups.old.wanted) }
     ensures kept { grep.new ≡ grep.old }
 {
     if !read_record(input, grep.options().end, place.number, line)? {
@@ -277,7 +271,6 @@ fn take_line(
         → TakesLine grep.old.options res place.entry searched groups.old groups.new taken line.now) }
     ensures in_order { OnOk result (IsInOrder groups.new) }
     ensures same_context { OnOk result (groups.new.context ≡ groups.old.context) }
-    ensures same_wanted { OnOk result (groups.new.wanted ≡ groups.old.wanted) }
     ensures kept { grep.new ≡ grep.old }
 {
     let at = LineStart {

@@ -37,7 +37,7 @@ impl<'p> Grep<'p> {
     }
 
     /// Appends what is printed of the line if it is selected, and returns whether it is.
-    fn append_line(
+    pub fn append_line(
         &mut self,
         place: Place<'_>,
         line: &[u8],
@@ -84,29 +84,6 @@ impl<'p> Grep<'p> {
             self.append_matches(at, line, out)?;
         }
         Ok(())
-    }
-
-    /// Returns whether the line is selected, and appends what is printed of it, if that is wanted.
-    pub fn take_line(
-        &mut self,
-        wanted: bool,
-        place: Place<'_>,
-        line: &[u8],
-        out: &mut Vec<u8>,
-    ) -> Result<bool, AllocError>
-        requires counted { place.offset + length line.now < 2 ^ 64 }
-        ensures selected { IfOk result (λ selected. (res : List Re) → Mean self.old res
-            → selected ≡ is_selected self.old.options res line.now) }
-        ensures shown { OnOk result ((res : List Re) → Mean self.old res → out.new.items ≡ out.old.items
-            ++ (if wanted then shown_if_selected self.old.options res place.entry.name.now place.entry.number
-            place.entry.offset line.now else [])) }
-        ensures kept { self.new ≡ self.old }
-    {
-        if wanted {
-            self.append_line(place, line, out)
-        } else {
-            Ok(self.selects(line))
-        }
     }
 
     /// Appends each match in the text of the line that is not empty, and returns whether there is any match, which may

@@ -1,6 +1,6 @@
 -- What is printed after the lines was printed.
 use Rattle.nfa_paths.proofs.Common.{Appends, Appends-trans, rules, ◌≡◌, ◌∙◌, ℕ, ◌++◌, List, ap, subst, IfSome_then}
-use Rattle.nfa_grep.specs.Printed.{context_of, limit_of, printed, shows, summary}
+use Rattle.nfa_grep.specs.Printed.{printed_if, summary}
 use Rattle.nfa_grep.proofs.search.print_matches.Goals as goal
 
 pub returns-clause-printed : goal.returns-clause-printed
@@ -17,8 +17,7 @@ returns-clause-printed g c = λ res meant.
     let after = g.W.Write.contents c.write_bytes.new.out in
     let appends : Appends middle after last = rw c.deref.ensures.value at c.in_ok-write_bytes.ensures in
     IfSome_then (g.R.Read.remaining c.args.input.now) (c.in_ok-count.ensures.printed res meant) (λ text lines.
-    let all = printed (shows request.report) options res request.name.now (context_of request.report request.context)
-    request.used (limit_of request.report request.limit) text in (
+    let all = printed_if request.report options res request.name.now request.context request.used request.limit text in (
       subst (λ (l : List ℕ). Appends before after (all ++ l))
           (last-is ∙ ap (summary request.report options request.name.now) lines.1)
           (Appends-trans before middle after all last lines.0 appends),

@@ -1,7 +1,6 @@
 -- The search goes on by a line, and ends where nothing is left to read, or the limit is reached and nothing is left to
 -- print.
 use Rattle.nfa_paths.proofs.Common.{Appends, rules, ◌≡◌, ◌∙◌, ℕ, ◌+◌, Bool, false, true, ap, arith, subst, sym, refl, ◌&&◌, ◌==◌, cond, nat_lt, not, IfSome_then}
-use Rattle.nfa_grep.specs.Printed.{context_of, limit_of, shows}
 use Rattle.nfa_grep.specs.Meant.{Grepping, Mean}
 use Rattle.nfa_grep.proofs.GoingLemmas.{going-end, going-init, going-pass, going-stop, going-take}
 use Rattle.nfa_grep.proofs.search.search.Goals.{then-taken, else-taken}
@@ -9,34 +8,32 @@ use Rattle.nfa_grep.proofs.search.search.Goals as goal
 
 pub loop-init : goal.loop-init
 loop-init g c = record {
-  printed = λ res meant. going-init (shows c.args.request.report) c.args.grep.now.options res c.args.request.name.now
-      (context_of c.args.request.report c.args.request.context) c.args.request.used
-      (limit_of c.args.request.report c.args.request.limit)
+  printed = λ res meant. going-init c.args.grep.now.options res c.args.request.name.now c.args.request.context
+      c.args.request.used c.args.request.limit
       (g.R.Read.remaining c.args.input.now) (g.W.Write.contents c.args.out.now)
       c.new-groups.result c.new-groups.ensures.printed c.new-groups.ensures.none_left;
   counted = omega arith;
   kept = search rules;
   in_order = c.new-groups.ensures.in_order;
   context = c.new-groups.ensures.context;
-  wanted = c.new-groups.ensures.wanted;
 }
 
 pub returns-then-is_done-clause-printed : goal.returns-then-is_done-clause-printed
 returns-then-is_done-clause-printed g c = λ res meant.
-    let limit = limit_of c.args.request.report c.args.request.limit in
+    let limit = c.args.request.limit in
     let over : (not (nat_lt c.loop.count limit) && (c.loop.groups.left == 0)) ≡ true =
-    rw (← c.limit-limit.ensures) (search rules) in
+    search rules in
     IfSome_then (g.R.Read.remaining c.args.input.now) (c.loop.invariant.printed res meant)
     (λ text going. going-stop going over)
 
 pub returns-in_default-clause-printed : goal.returns-in_default-clause-printed
 returns-in_default-clause-printed g c = λ res meant.
     let inv = c.loop.invariant in
-    let limit = limit_of c.args.request.report c.args.request.limit in
+    let limit = c.args.request.limit in
     let input = g.R.Read.remaining c.pass_lines.new.input in
     let meant-here = subst (λ (gr : Grepping). Mean gr res) (sym inv.kept) meant in
     let more : (not (nat_lt c.loop.count limit) && (c.loop.groups.left == 0)) ≡ false =
-    rw (← c.limit-limit.ensures) (search rules) in
+    search rules in
     let over = rw inv.kept at (c.in_ok-at.ensures.passed res meant-here) in
     let none = rw (c.in_default.is, inv.kept) at (c.in_ok-taken.ensures.taken res meant-here) in
     IfSome_then (g.R.Read.remaining c.args.input.now) (inv.printed res meant) (λ text going.
@@ -55,15 +52,14 @@ loop-preserved g c =
     let taken = c.in-Some.taken in
     record {
       printed = λ res meant.
-          let context = context_of request.report request.context in
-          let limit = limit_of request.report request.limit in
+          let context = request.context in
+          let limit = request.limit in
           let input = g.R.Read.remaining c.pass_lines.new.input in
           let meant-here = subst (λ (gr : Grepping). Mean gr res) (sym inv.kept) meant in
           let more : (not (nat_lt count limit) && (c.loop.groups.left == 0)) ≡ false =
-          rw (← c.limit-limit.ensures) (search rules) in
+          search rules in
           let more-passed : (not (nat_lt count limit) && (passed.left == 0)) ≡ false =
           rw c.in_ok-at.ensures.same_left more in
-          let wanted-is : passed.wanted ≡ shows request.report = c.in_ok-at.ensures.same_wanted ∙ inv.wanted in
           let context-is : passed.context ≡ context = c.in_ok-at.ensures.same_context ∙ inv.context in
           let middle = g.W.Write.contents c.write_bytes.new.out in
           let last = g.W.Write.contents c.write_bytes-in-loop.new.out in
@@ -76,13 +72,13 @@ loop-preserved g c =
             | then-taken w ↦ w.count-is ∙ sym (ap counted w.if-taken.true)
             | else-taken w ↦ w.count-is ∙ sym (ap counted w.if-taken.false)
           ] in
-          let next = rw (c.in-Some.is, inv.kept, c.limit-limit.ensures) at
+          let next = rw (c.in-Some.is, inv.kept) at
           (c.in_ok-taken.ensures.taken res meant-here) in
           let over = rw inv.kept at (c.in_ok-at.ensures.passed res meant-here) in
           rw count-is (IfSome_then (g.R.Read.remaining c.args.input.now) (inv.printed res meant) (λ text going.
           let here = going-pass going input c.loop.at at passed refl refl more c.in_ok-at.ensures.same_left over in
           going-take here (g.R.Read.remaining c.take_next.new.input) middle last c.place-place.result new taken
-          c.place-place.ensures.name c.place-place.ensures.number c.place-place.ensures.offset wanted-is context-is
+          c.place-place.ensures.name c.place-place.ensures.number c.place-place.ensures.offset context-is
           more-passed next first-part second-part));
       counted = elim c.if-taken.branch [
         | then-taken w ↦ omega (arith, w.count-is, inv.counted)
@@ -91,5 +87,4 @@ loop-preserved g c =
       kept = search rules;
       in_order = search rules;
       context = search rules;
-      wanted = search rules;
     }
