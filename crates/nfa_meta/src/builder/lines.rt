@@ -64,7 +64,7 @@ impl Builder {
     {
         let nfa = self.compiler().build_many(alloc, patterns)?;
         let nfa = self.config.end_lines(nfa);
-        // There are fewer patterns than slots, and not too many of these.
+        // There are no more patterns than slots, whose number is limited.
         let _ = nfa.group_info().slot_len();
         self.config.keep_captures(alloc, nfa)
     }
