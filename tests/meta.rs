@@ -16,6 +16,7 @@ mod starts;
 mod templates;
 mod terminators;
 mod texts;
+mod which_captures;
 mod whole;
 mod windows;
 mod written;

@@ -38,6 +38,7 @@ config_in o = record {
   utf8 = not (has_flag o.flags 128);
   nfa_size_limit = or_default o.size_limit default_settings.nfa_size_limit;
   line_terminator = default_settings.line_terminator;
+  which_captures = default_settings.which_captures;
   hybrid = not (has_flag o.flags 512);
   hybrid_cache_capacity = or_default o.dfa_capacity default_settings.hybrid_cache_capacity;
   backtrack_visited_capacity = if o.backtrack_capacity == 0 then None else Some o.backtrack_capacity;

@@ -102,6 +102,7 @@ fn config(options: &NfaOptions) -> Config
         utf8: !has(options.flags, BYTES),
         nfa_size_limit: or_default(options.size_limit, default.nfa_size_limit),
         line_terminator: default.line_terminator,
+        which_captures: default.which_captures,
         hybrid: !has(options.flags, NO_DFA),
         hybrid_cache_capacity: or_default(options.dfa_capacity, default.hybrid_cache_capacity),
         backtrack_visited_capacity,

@@ -1,5 +1,6 @@
 pub mod AlwaysSetLemmas
 pub mod AnchoredLemmas
+pub mod BuiltLemmas
 pub mod CaughtLemmas
 pub mod CountLemmas
 pub mod FirstEndLemmas

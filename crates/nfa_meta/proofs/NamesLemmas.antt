@@ -2,7 +2,10 @@
 use Rattle.nfa_paths.proofs.Common.{◌≡◌, ◌∙◌, ◌==◌, ap, ℕ, Bool, MatchBool, true, false, List, [], ◌∷◌, ◌≤◌, drop, length, Option, None, Some, sym, IsSomeAnd, chars, Automaton}
 use Rattle.nfa_compiler.proofs.CallLemmas.{groups-named}
 use Rattle.nfa_compiler.specs.Written.{syntax_of}
-use Rattle.nfa_meta.specs.Built.{IsBuiltFrom, IsCompiledBy, compiler_of}
+use Rattle.nfa_captures.specs.Kept.{kept_groups, with_captures}
+use Rattle.nfa_captures.specs.declared.which.WhichCaptures.{WhichCaptures}
+use Rattle.nfa_captures.specs.declared.which.WhichCaptures.TheVariants as which
+use Rattle.nfa_meta.specs.Built.{HasCaptures, HasLines, IsBuiltFrom, IsCompiledBy, compiler_of}
 use Rattle.nfa_meta.specs.declared.builder.Builder.{Builder}
 use Rattle.thompson_nfa.specs.Automaton.{nfa_with_terminator}
 use Rattle.nfa_compiler.specs.Common.{Config, Re, meaning, Hir, Nested, SameCaptures, Names, group_count, read, Reads, IsCompiled, IsNamed}
@@ -26,19 +29,31 @@ groups-named-one syntax text hir names nfa reads compiled =
     ∙ groups-named syntax (text ∷ []) compiled.trees (names ∷ []) compiled.read
     (names-named syntax text hir names reads, tt)
 
--- The groups of an NFA do not depend on its line terminator.
+-- The groups of an NFA do not depend on its line terminator, and are those that are kept.
 pub groups-built : (b : Builder) (text : List ℕ) (hir : Hir) (names : Names) (nfa : Automaton)
     → Reads (syntax_of (compiler_of b)) text hir names → IsBuiltFrom b (text ∷ []) nfa
-    → nfa.groups ≡ drop 1 names ∷ []
-groups-built b text hir names nfa reads = ended (b.config.line_terminator == 10)
+    → nfa.groups ≡ kept_groups b.config.which_captures (drop 1 names ∷ [])
+unfolding with_captures
+groups-built b text hir names nfa reads = kept b.config.which_captures
   where
     of : (plain : Automaton) → IsCompiledBy b (text ∷ []) plain → plain.groups ≡ drop 1 names ∷ []
     of plain is = groups-named-one (syntax_of (compiler_of b)) text hir names plain reads is.compiled
 
-    ended : (feed : Bool)
-        → MatchBool feed (IsCompiledBy b (text ∷ []) nfa)
+    ended : (whole : Automaton) (feed : Bool)
+        → MatchBool feed (IsCompiledBy b (text ∷ []) whole)
         ((plain : Automaton) × IsCompiledBy b (text ∷ []) plain
-        × (nfa ≡ nfa_with_terminator b.config.line_terminator plain))
-        → nfa.groups ≡ drop 1 names ∷ []
-    ended true is = of nfa is
-    ended false is = ap (λ (a : Automaton). a.groups) is.2 ∙ of is.0 is.1
+        × (whole ≡ nfa_with_terminator b.config.line_terminator plain))
+        → whole.groups ≡ drop 1 names ∷ []
+    ended whole true is = of whole is
+    ended whole false is = ap (λ (a : Automaton). a.groups) is.2 ∙ of is.0 is.1
+
+    lines : (whole : Automaton) → HasLines b.config.line_terminator (IsCompiledBy b (text ∷ [])) whole
+        → whole.groups ≡ drop 1 names ∷ []
+    lines whole = ended whole (b.config.line_terminator == 10)
+
+    kept : (some : WhichCaptures)
+        → HasCaptures some (HasLines b.config.line_terminator (IsCompiledBy b (text ∷ []))) nfa
+        → nfa.groups ≡ kept_groups some (drop 1 names ∷ [])
+    kept which.All is = lines nfa is
+    kept which.Implicit is = ap (λ (a : Automaton). a.groups) is.2 ∙ ap (kept_groups which.Implicit) (lines is.0 is.1)
+    kept which.None is = ap (λ (a : Automaton). a.groups) is.2 ∙ ap (kept_groups which.None) (lines is.0 is.1)

@@ -1,5 +1,5 @@
 -- The spans that the iterators around the matches of a text give.
-use Rattle.nfa_paths.proofs.Common.{◌≡◌, ◌≤◌, ◌<◌, ◌+◌, ◌∙◌, ◌⊎◌, ◌++◌, ◌∷◌, [], ℕ, zero, suc, List, None, Some, Option, true, false, ap, append-nil, arith, inl, inr, length, map, refl, subst, sym, take, take-append-le, take_all, true≢false, All, All-cons, All-head, All-nil, All-tail, Automaton, Found, found_of, Match, MatchKind, Search, Span, whole}
+use Rattle.nfa_paths.proofs.Common.{◌≡◌, ◌≤◌, ◌<◌, ◌+◌, ◌∙◌, ◌⊎◌, ◌++◌, ◌∷◌, [], ℕ, zero, suc, List, None, Some, Option, none-some, true, false, ap, append-nil, arith, inl, inr, length, map, refl, subst, sym, take, take-append-le, take_all, true≢false, All, All-cons, All-head, All-nil, All-tail, Automaton, Found, found_of, Match, MatchKind, Search, Span, whole}
 use Rattle.std.proofs.iter.runs.Made.{run_of_exit, runs_from_along}
 use Rattle.nfa_search_base.specs.Common.{Answer, AnswersMatch, AreDisjoint, AreMatches, Fails, ItemsLast, ItemsNext, IterState, KeepsStepsWith, MatchesRun, Yields, after, fresh, span_of}
 use Rattle.nfa_search_base.proofs.ListLemmas.{as_items, matches-disjoint, matches-exist, matches-rest}
@@ -46,11 +46,17 @@ pub record Ended (s : Split) (xs : List Span) (t : Split) : Type 0 where
   pub spans : xs ≡ gap_spans s.start s.end (map found_of matches)
   pub ended : t.done ≡ true
 
+-- a call after the end gives no span
+none-after : (x : Span) (s t : Split) → s.done ≡ true → split_next s (Some x) t → ⊥
+none-after x s t over step = elim (chosen s.done step) [
+  | inl p ↦ none-some x (sym p.1.0)
+  | inr p ↦ true≢false (sym over ∙ p.0)
+]
+
 -- after the end there are no spans
 ended-stays : (xs : List Span) (s t : Split) → s.done ≡ true → Yields split_next s xs t → (xs ≡ []) × (t ≡ s)
 ended-stays [] s t over ran = (refl, sym ran)
-ended-stays (x ∷ xs) s t over ran =
-    let step = rw over at ran.1 in let never : Some x ≡ None = step.0 in cc
+ended-stays (x ∷ xs) s t over ran = absurd (none-after x s ran.0 over ran.1)
 
 module _ (s q : Split) (x : Span) (xs : List Span) where
   passed-one : (m : Match) → finds_next s.matches (Some m) q.matches → SplitGives s (Some m) (Some x) q

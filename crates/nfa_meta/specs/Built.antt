@@ -6,6 +6,9 @@ use Rattle.nfa_paths.specs.Common.{Automaton, IsAutomaton, is_utf8_empty}
 use Rattle.nfa_backtrack.specs.Backtrack.{empty_cache}
 use Rattle.nfa_pikevm.specs.Engines.{cache_for}
 use Rattle.nfa_choice.specs.ChoiceState.{ChoiceState}
+use Rattle.nfa_captures.specs.Kept.{with_captures}
+use Rattle.nfa_captures.specs.declared.which.WhichCaptures.{WhichCaptures}
+use Rattle.nfa_captures.specs.declared.which.WhichCaptures.TheVariants as which
 use Rattle.nfa_compiler.specs.Compiled.{FindsFromAnyStart, IsBoundAsRead, IsCompiled}
 use Rattle.nfa_compiler.specs.Rejected.{compile_error_text, IsOfOneText, NamesText, TextsFitIn}
 use Rattle.nfa_compiler.specs.Written.{syntax_of, byte_syntax}
@@ -25,6 +28,7 @@ default_settings = record {
   utf8 = true;
   nfa_size_limit = 10_485_760;
   line_terminator = 10;
+  which_captures = which.All;
   hybrid = true;
   hybrid_cache_capacity = 16_777_216;
   backtrack_visited_capacity = None;
@@ -100,9 +104,16 @@ HasLines terminator Is nfa =
     MatchBool (terminator == 10) (Is nfa)
     ((plain : Automaton) × Is plain × (nfa ≡ nfa_with_terminator terminator plain))
 
--- The NFA is what the builder makes of these texts: that of its compiler, with the builder's line terminator.
+-- This is true of the NFA; or it is true of an NFA with all captures, of which this one keeps only some.
+abbrev pub HasCaptures : WhichCaptures → (Automaton → Type 0) → Automaton → Type 0
+HasCaptures which.All Is nfa = Is nfa
+HasCaptures which Is nfa = (whole : Automaton) × Is whole × (nfa ≡ with_captures which whole)
+
+-- The NFA is what the builder makes of these texts: that of its compiler, with the builder's line terminator, and only
+-- the captures that the builder keeps.
 abbrev pub IsBuiltFrom : Builder → List (List ℕ) → Automaton → Type 0
-IsBuiltFrom b texts nfa = HasLines b.config.line_terminator (IsCompiledBy b texts) nfa
+IsBuiltFrom b texts nfa =
+    HasCaptures b.config.which_captures (HasLines b.config.line_terminator (IsCompiledBy b texts)) nfa
 
 -- the error is not that allocation failed
 abbrev pub IsNotMemory : CompileError → Type 0

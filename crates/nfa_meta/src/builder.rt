@@ -7,6 +7,7 @@ ghost use Rattle.nfa_meta.specs.Built.{default_settings, regex_of};
 ghost use Rattle.nfa_meta.specs.RegexState.{row_capacity};
 
 mod flags;
+mod groups;
 mod lines;
 mod names;
 mod one_pass;
@@ -14,6 +15,7 @@ mod texts;
 
 use crate::error::BuildError;
 use crate::regex::Regex;
+use nfa_captures::WhichCaptures;
 use nfa_compiler::{Compiler, Syntax};
 use nfa_engines::backtrack;
 use nfa_engines::error::SearchError;
@@ -23,7 +25,7 @@ use std::alloc::Global;
 pub(crate) use texts::Texts;
 use thompson_nfa::NFA;
 
-/// The settings of a regex. The first four are those of its NFA, if it is compiled from texts. The others change what
+/// The settings of a regex. The first five are those of its NFA, if it is compiled from texts. The others change what
 /// searches cost, and never what they return.
 #[derive(Clone, Copy, Debug)]
 pub struct Config {
@@ -35,6 +37,8 @@ pub struct Config {
     pub nfa_size_limit: usize,
     /// The byte that ends a line for `^` and `$` in multi-line mode: see [`Config::line_terminator`].
     pub line_terminator: u8,
+    /// The groups that are kept: see [`Config::which_captures`].
+    pub which_captures: WhichCaptures,
     /// Whether searches begin with a lazy DFA.
     pub hybrid: bool,
     /// The most bytes that the rows of the lazy DFA may take: see [`Config::hybrid_cache_capacity`].
@@ -65,6 +69,7 @@ impl Config {
             utf8: true,
             nfa_size_limit: 10 << 20,
             line_terminator: b'\n',
+            which_captures: WhichCaptures::All,
             hybrid: true,
             hybrid_cache_capacity: 16 << 20,
             backtrack_visited_capacity: None,

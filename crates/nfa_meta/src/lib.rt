@@ -21,6 +21,7 @@ pub mod set;
 pub use builder::{Builder, Config};
 pub use error::BuildError;
 pub use group_spans::extract;
+pub use nfa_captures::WhichCaptures;
 pub use nfa_choice::Engine;
 pub use nfa_compiler::{CompileError, Flags, Syntax};
 pub use regex::{CapturesMatches, FindMatches, HalfMatches, Regex, Split, SplitN};

@@ -57,12 +57,15 @@ impl Builder {
         self.configure(config)
     }
 
-    /// Makes the NFA of these patterns, numbered from 0 on, with the line terminator.
+    /// Makes the NFA of these patterns, numbered from 0 on, with the line terminator and the captures that are kept.
     pub(crate) fn compile(&self, alloc: Global, patterns: &[&str]) -> Result<NFA, BuildError>
         ensures built { IfOk result (IsBuiltFrom self.now (map (λ text. text.now) patterns.now)) }
         ensures why { IfErr result (IsWhyNotBuilt self.now (map (λ text. text.now) patterns.now)) }
     {
         let nfa = self.compiler().build_many(alloc, patterns)?;
-        Ok(self.config.end_lines(nfa))
+        let nfa = self.config.end_lines(nfa);
+        // There are no more patterns than slots, whose number is limited.
+        let _ = nfa.group_info().slot_len();
+        self.config.keep_captures(alloc, nfa)
     }
 }

@@ -2,6 +2,7 @@
 ghost use Rattle.std.specs.Prelude.{◌≡◌, ◌∷◌, [], IfErr, IfOk, None, Some, drop, map, option_map, slice_get};
 ghost use Rattle.std.specs.Prelude.{string_bytes};
 ghost use Rattle.nfa_paths.specs.Common.{Automaton};
+ghost use Rattle.nfa_captures.specs.Kept.{kept_groups};
 ghost use Rattle.nfa_compiler.specs.Compiled.{IsNamed};
 ghost use Rattle.nfa_compiler.specs.Written.{syntax_of};
 ghost use Rattle.nfa_meta.specs.Built.{IsBuiltFrom, IsWhyNotBuilt, compiler_of};
@@ -16,7 +17,8 @@ impl Builder {
     /// name has `None`, and so has group 0, which is the whole match.
     ///
     /// They are read from the text, since a regex keeps its NFA only. The groups of each regex that this builder makes
-    /// of the text have these names. Fails as [`Builder::build`] does.
+    /// of the text have these names, as far as it keeps them ([`Config::which_captures`]). Fails as [`Builder::build`]
+    /// does.
     ///
     /// ```
     /// let names = Regex::builder().capture_names(alloc, "(?<year>[0-9]+)-([0-9]+)")?;
@@ -34,7 +36,8 @@ impl Builder {
             (map (option_map string_bytes) names.items)) }
         ensures group_zero { IfOk result (λ names. slice_get names.items 0 ≡ Some None) }
         ensures names { IfOk result (λ names. (nfa : Automaton) → IsBuiltFrom self.now (pattern.now ∷ []) nfa
-            → nfa.groups ≡ drop 1 (map (option_map string_bytes) names.items) ∷ []) }
+            → nfa.groups ≡ kept_groups self.now.config.which_captures
+            (drop 1 (map (option_map string_bytes) names.items) ∷ [])) }
         ensures why { IfErr result (IsWhyNotBuilt self.now (pattern.now ∷ [])) }
     {
         // If the text is not a pattern, this says why. After it only allocation can fail.
