@@ -6,3 +6,4 @@ mod NumbersLemmas
 mod PaintedLemmas
 mod PatternLemmas
 mod WhichLemmas
+mod WidthLemmas
