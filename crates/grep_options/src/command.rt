@@ -186,6 +186,9 @@ fn options_of(matches: &ArgMatches<'_>, several: bool) -> Options {
         which: matches.get_flag("which"),
         numbers: matches.get_flag("line-number"),
         offsets: matches.get_flag("byte-offset"),
+        tabbed: matches.get_flag("initial-tab"),
+        // It depends on the input.
+        width: 0,
         coloured: false,
     }
 }

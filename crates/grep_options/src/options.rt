@@ -36,6 +36,10 @@ pub struct Options {
     pub numbers: bool,
     /// Print the offset of the line, or of the match, in bytes from the start of the input.
     pub offsets: bool,
+    /// Print a tab between what comes before a line and the line.
+    pub tabbed: bool,
+    /// Numbers of lines and offsets with fewer digits than this have blanks before them.
+    pub width: usize,
     /// Print matches, and what comes before lines, in colours.
     pub coloured: bool,
 }

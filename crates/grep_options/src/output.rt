@@ -32,6 +32,14 @@ pub fn is_file_input(rt: &HostRuntime) -> bool {
     file_at(rt, INPUT).is_some()
 }
 
+/// Returns how many bytes the input of this name has. None if it is not a regular file.
+pub fn input_size(rt: &HostRuntime, name: &str) -> Option<u64> {
+    match fs::metadata(rt, if name == "-" { INPUT } else { name }) {
+        Ok(metadata) if metadata.is_file() => Some(metadata.len()),
+        _ => None,
+    }
+}
+
 /// Returns which regular file is at the path. There is none if something else is there.
 fn file_at(rt: &HostRuntime, path: &str) -> Option<FileId> {
     match fs::metadata(rt, path) {

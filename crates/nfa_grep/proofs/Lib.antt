@@ -7,3 +7,4 @@ mod NumbersLemmas
 mod PaintedLemmas
 mod PatternLemmas
 mod WhichLemmas
+mod WidthLemmas

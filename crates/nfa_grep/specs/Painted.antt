@@ -1,5 +1,5 @@
 -- What is printed in colours: texts between two escape sequences of a terminal. Without these it is the text.
-use Rattle.std.specs.Prelude.{◌≡◌, ℕ, ◌≤◌, All, Bool, false, true, not, ◌||◌, List, [], ◌∷◌, ◌++◌, None, codes, drop, if◌then◌else◌, length, map, slice_range, flat_map, ◌==◌}
+use Rattle.std.specs.Prelude.{◌≡◌, ℕ, ◌-◌, ◌≤◌, All, Bool, false, true, not, ◌||◌, List, [], ◌∷◌, ◌++◌, None, codes, drop, if◌then◌else◌, length, map, replicate, slice_range, flat_map, ◌==◌}
 use Rattle.nfa_search_base.specs.Common.{Found, found_of, whole, Match, AreDisjoint}
 use Rattle.nfa_meta.specs.Gaps.{last_end}
 use Rattle.nfa_grep.specs.declared.paint.Colour.{Colour}
@@ -27,6 +27,10 @@ end_of_colour = escape ∷ codes "[m" ++ clear
 -- the text in this colour, if colours are wanted
 abbrev pub painted : Bool → Colour → List ℕ → List ℕ
 painted coloured colour text = if coloured then (start_of colour ++ (text ++ end_of_colour)) else text
+
+-- the text, with blanks before it if it has fewer bytes than this
+abbrev pub aligned : ℕ → List ℕ → List ℕ
+aligned width text = replicate (width - length text) 32 ++ text
 
 -- a label, and this byte after it
 abbrev pub label : Bool → Colour → ℕ → List ℕ → List ℕ

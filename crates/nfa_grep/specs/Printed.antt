@@ -1,5 +1,5 @@
 -- What is printed of the lines of an input, and which lines are printed around those that are selected.
-use Rattle.std.specs.Prelude.{◌≡◌, ℕ, ◌+◌, ◌-◌, Bool, true, false, not, ◌&&◌, ◌||◌, List, [], ◌∷◌, ◌++◌, length, map, decimal, drop, if◌then◌else◌, ◌==◌, nat_lt, slice_range, take}
+use Rattle.std.specs.Prelude.{◌≡◌, ℕ, ◌+◌, ◌-◌, Bool, true, false, not, ◌&&◌, ◌||◌, None, Option, Some, List, [], ◌∷◌, ◌++◌, length, map, decimal, drop, if◌then◌else◌, ◌==◌, nat_lt, slice_range, take}
 use Rattle.std.specs.List.{count_by, flat_map, join_with_byte, list_any}
 use Rattle.bstr.specs.Records.{records}
 use Rattle.nfa_engines.specs.PatternSets.{patterns_of}
@@ -10,7 +10,7 @@ pub use Rattle.grep_options.specs.declared.options.Context.{Context}
 pub use Rattle.grep_options.specs.declared.options.Report.{Report}
 use Rattle.grep_options.specs.declared.options.Report.TheVariants.{Lines, Count, With, Without, Nothing}
 use Rattle.nfa_grep.specs.Meant.{ArePatterns, Options, Re, all_found, is_found, span_of, which_found}
-use Rattle.nfa_grep.specs.Painted.{label, painted, painted_text}
+use Rattle.nfa_grep.specs.Painted.{aligned, label, painted, painted_text}
 use Rattle.nfa_grep.specs.declared.paint.Colour.{Colour}
 use Rattle.nfa_grep.specs.declared.paint.Colour.TheVariants.{Match, Name, Number, Separator}
 
@@ -52,19 +52,38 @@ abbrev pub mark_of : Options → List Re → List ℕ → List ℕ
 mark_of options res line =
     if options.which then number_list (patterns_of (which_found res (text_of options line))) else []
 
--- what comes before a line or a match: the name of the input, the mark, the number and the offset, if they are wanted
-abbrev pub head : Options → ℕ → List ℕ → List ℕ → ℕ → ℕ → List ℕ
-head options end name mark number offset =
+-- a tab, if it is wanted and something is before it and after it in its line: a label, and some of the text
+abbrev pub tab_if : Options → Bool → List ℕ
+tab_if options some =
+    if (options.tabbed && some) && (options.named || (options.which || (options.numbers || options.offsets)))
+    then 9 ∷ [] else []
+
+-- How wide the numbers of lines and offsets of an input are: as wide as its size in bytes, or, if lines are numbered, as
+-- that and one more. If the size is not known, they are as wide as the largest one that an input may have.
+abbrev pub width_of : Bool → Option ℕ → ℕ
+width_of numbers (Some size) = length (decimal (if numbers then size + 1 else size))
+width_of numbers None = 19
+
+-- What comes before a line or a match: the name of the input, the mark, the number, the offset and a tab, if they are
+-- wanted. `some` says that there is some text after them.
+abbrev pub head : Options → ℕ → List ℕ → List ℕ → ℕ → ℕ → Bool → List ℕ
+head options end name mark number offset some =
     name_label options end name
     ++ (label_if options.which options.coloured Number end mark
-    ++ (label_if options.numbers options.coloured Number end (decimal number)
-    ++ label_if options.offsets options.coloured Number end (decimal offset)))
+    ++ (label_if options.numbers options.coloured Number end (aligned options.width (decimal number))
+    ++ (label_if options.offsets options.coloured Number end (aligned options.width (decimal offset))
+    ++ tab_if options some)))
+
+-- whether the line has a byte before its end
+abbrev pub has_text : Options → List ℕ → Bool
+has_text options [] = false
+has_text options (first ∷ rest) = not (first == options.end)
 
 -- what is printed of a match that starts and ends there: nothing of an empty one
 abbrev pub piece : Options → ℕ → List ℕ → List ℕ → ℕ → ℕ → List ℕ → ℕ × ℕ → List ℕ
 piece options end name mark number offset line span =
     if span.0 == span.1 then []
-    else (head options end name mark number (offset + span.0)
+    else (head options end name mark number (offset + span.0) true
     ++ (painted options.coloured Match (slice_range line span.0 span.1) ++ options.end ∷ []))
 
 -- whether the line is selected
@@ -101,7 +120,7 @@ painted_line options res line =
 -- what is printed of a whole line, with its matches in colour if they are
 abbrev pub shown_whole : Options → ℕ → List Re → List ℕ → ℕ → ℕ → List ℕ → List ℕ
 shown_whole options end res name number offset line =
-    head options end name (mark_of options res line) number offset
+    head options end name (mark_of options res line) number offset (has_text options line)
     ++ (if has_colours options end then painted_line options res line else with_end options.end line)
 
 -- What is printed of a line that is printed, which may be selected. With `only`, matches are printed of lines that are

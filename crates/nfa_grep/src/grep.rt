@@ -109,6 +109,13 @@ impl<'p> Grep<'p> {
         self.options
     }
 
+    /// Prints the numbers of lines and offsets with blanks before them, if they have fewer digits than this.
+    pub fn align(&mut self, width: usize)
+        ensures { self.new ≡ record self.old { options = record self.old.options { width = width } } }
+    {
+        self.options.width = width;
+    }
+
     /// Returns bytes that are in each line that is selected. They are empty if there are no such bytes, or if none are
     /// known.
     pub fn needed(&self) -> &[u8]

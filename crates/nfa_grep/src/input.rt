@@ -1,8 +1,9 @@
 //! The search of one input: of a file, or of standard input.
 use crate::binary::search_input;
 use crate::grep::Grep;
+use crate::line::width_of;
 use grep_options::options::{BinaryFiles, Report, Request};
-use grep_options::output::is_file_input;
+use grep_options::output::{input_size, is_file_input};
 use std::fs;
 use std::io::{BufReader, Read, Write};
 use text_lines::failure::Failure;
@@ -16,12 +17,21 @@ pub fn search_named<W: Write>(
     name: &str,
     out: &mut W,
 ) -> Result<u64, Failure> {
+    align(rt, grep, name);
     if name == "-" {
         return search_standard(rt, grep, binary, request, out);
     }
     match fs::open(rt, name) {
         Ok(file) => search_input(rt, grep, binary, request, &mut buffered(rt, file)?, out),
         Err(error) => Err(Failure::Read(error)),
+    }
+}
+
+/// Prints numbers of one width, that of the size of the input of this name, if that is wanted.
+fn align(rt: &HostRuntime, grep: &mut Grep<'_>, name: &str) {
+    let options = grep.options();
+    if options.tabbed {
+        grep.align(width_of(options.numbers, input_size(rt, name)));
     }
 }
 

@@ -1,9 +1,11 @@
 //! What comes before a line where it is printed.
 ghost use Rattle.std.specs.Prelude.{◌≡◌, ◌++◌, OnOk, decimal};
+ghost use Rattle.nfa_grep.specs.Painted.{aligned};
 ghost use Rattle.nfa_grep.specs.Printed.{count_line, head, label_if, name_end, name_label, name_line, summary};
+ghost use Rattle.nfa_grep.specs.Printed.{tab_if, width_of};
 ghost use Rattle.nfa_grep.specs.declared.paint.Colour.TheVariants.{Number};
 
-use crate::paint::{Colour, append_label, append_painted};
+use crate::paint::{Colour, append_aligned, append_label, append_painted};
 use grep_options::options::{Options, Report};
 use itoa::Buffer;
 use std::alloc::AllocError;
@@ -18,20 +20,53 @@ pub struct Place<'n> {
     pub end: u8,
 }
 
-/// Appends the number and this byte, if it is wanted.
+/// The width of the largest size that an input may have.
+const WIDEST: usize = 19;
+
+/// Returns how wide numbers and offsets of an input of this size are, if they are of one width.
+pub fn width_of(numbers: bool, size: Option<u64>) -> usize
+    ensures { result ≡ width_of numbers size }
+{
+    let Some(size) = size else {
+        return WIDEST;
+    };
+    let last = if numbers {
+        size as u128 + 1
+    } else {
+        size as u128
+    };
+    let mut buffer = Buffer::new();
+    buffer.format(last).len()
+}
+
+/// Appends the number, with blanks before it up to the width that is wanted, and this byte, if it is wanted.
 fn append_number(
-    coloured: bool,
+    options: Options,
     wanted: bool,
     end: u8,
     number: u64,
     out: &mut Vec<u8>,
 ) -> Result<(), AllocError>
-    ensures { OnOk result (out.new.items ≡ out.old.items ++ label_if wanted coloured Number end (decimal number)) }
+    ensures { OnOk result (out.new.items ≡ out.old.items
+        ++ label_if wanted options.coloured Number end (aligned options.width (decimal number))) }
 {
-    if wanted {
-        let mut buffer = Buffer::new();
-        let digits = buffer.format(number).as_bytes();
-        append_label(coloured, Colour::Number, end, digits, out)?;
+    if !wanted {
+        return Ok(());
+    }
+    let coloured = options.coloured;
+    let mut buffer = Buffer::new();
+    let digits = buffer.format(number).as_bytes();
+    append_aligned(coloured, Colour::Number, options.width, digits, out)?;
+    append_painted(coloured, Colour::Separator, &[end], out)
+}
+
+/// Appends a tab, if it is wanted, something is before it, and there is `some` text after it.
+fn append_tab(options: Options, some: bool, out: &mut Vec<u8>) -> Result<(), AllocError>
+    ensures { OnOk result (out.new.items ≡ out.old.items ++ tab_if options some) }
+{
+    let labelled = options.named || options.which || options.numbers || options.offsets;
+    if options.tabbed && some && labelled {
+        out.push(b'\t')?;
     }
     Ok(())
 }
@@ -70,22 +105,23 @@ fn append_mark(options: Options, end: u8, mark: &[u8], out: &mut Vec<u8>) -> Res
     Ok(())
 }
 
-/// Appends what comes before a line or a match: the name of the input, the mark, the number of the line and the offset,
-/// if they are wanted.
+/// Appends what comes before a line or a match: the name of the input, the mark, the number of the line, the offset and
+/// a tab, if they are wanted. There is `some` text after them.
 pub fn append_head(
     options: Options,
     place: Place<'_>,
     mark: &[u8],
+    some: bool,
     out: &mut Vec<u8>,
 ) -> Result<(), AllocError>
     ensures { OnOk result (out.new.items ≡ out.old.items
-        ++ head options place.entry.end place.entry.name.now mark.now place.entry.number place.entry.offset) }
+        ++ head options place.entry.end place.entry.name.now mark.now place.entry.number place.entry.offset some) }
 {
-    let coloured = options.coloured;
     append_name(options, place.end, place.name, out)?;
     append_mark(options, place.end, mark, out)?;
-    append_number(coloured, options.numbers, place.end, place.number, out)?;
-    append_number(coloured, options.offsets, place.end, place.offset, out)
+    append_number(options, options.numbers, place.end, place.number, out)?;
+    append_number(options, options.offsets, place.end, place.offset, out)?;
+    append_tab(options, some, out)
 }
 
 /// Appends the name, as a line or with a byte 0 after it.

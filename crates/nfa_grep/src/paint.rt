@@ -1,10 +1,10 @@
 //! Texts in colours, as a terminal shows them.
-ghost use Rattle.std.specs.Prelude.{◌≡◌, ◌≤◌, ◌++◌, None, OnOk, map};
+ghost use Rattle.std.specs.Prelude.{◌≡◌, ◌≤◌, ◌++◌, None, OnOk, map, replicate};
 ghost use Rattle.regex_search_core.specs.Found.{found_of};
 ghost use Rattle.regex_search_core.specs.Search.{whole};
 ghost use Rattle.nfa_engines.specs.Lists.{AreDisjoint, IsInside};
-ghost use Rattle.nfa_grep.specs.Painted.{label, matched_from, painted, painted_text, start_of, ColoursCanBeLeftOut};
-ghost use Rattle.nfa_grep.specs.Painted.{PartsAreTheText};
+ghost use Rattle.nfa_grep.specs.Painted.{aligned, label, matched_from, painted, painted_text, start_of};
+ghost use Rattle.nfa_grep.specs.Painted.{ColoursCanBeLeftOut, PartsAreTheText};
 
 use regex_search_core::Match;
 use std::alloc::AllocError;
@@ -54,12 +54,38 @@ pub fn append_painted(
 ) -> Result<(), AllocError>
     ensures { OnOk result (out.new.items ≡ out.old.items ++ painted coloured colour text.now) }
 {
+    append_aligned(coloured, colour, 0, text, out)
+}
+
+/// Appends the text, with blanks before it if it has fewer bytes than `width`, in this colour if colours are wanted.
+pub fn append_aligned(
+    coloured: bool,
+    colour: Colour,
+    width: usize,
+    text: &[u8],
+    out: &mut Vec<u8>,
+) -> Result<(), AllocError>
+    ensures { OnOk result (out.new.items ≡ out.old.items ++ painted coloured colour (aligned width text.now)) }
+{
+    let blanks = width.saturating_sub(text.len());
     if !coloured {
+        append_blanks(blanks, out)?;
         return out.extend_from_slice(text);
     }
     out.extend_from_slice(colour.start())?;
+    append_blanks(blanks, out)?;
     out.extend_from_slice(text)?;
     out.extend_from_slice(END)
+}
+
+/// Appends this many blanks.
+fn append_blanks(count: usize, out: &mut Vec<u8>) -> Result<(), AllocError>
+    ensures { OnOk result (out.new.items ≡ out.old.items ++ replicate count 32) }
+{
+    for _ in 0..count {
+        out.push(b' ')?;
+    }
+    Ok(())
 }
 
 /// Appends a label and this byte after it, in colours if they are wanted.

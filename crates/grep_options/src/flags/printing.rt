@@ -67,6 +67,14 @@ pub const LINES: &[Entry] = &[
         help: "Print the numbers, from 0, of the patterns that match in the line",
     },
     Entry {
+        name: "initial-tab",
+        letter: Some('T'),
+        also: Also::Nothing,
+        takes: Takes::Nothing,
+        rivals: &[],
+        help: "Print a tab between what comes before a line and the line, and numbers of one width",
+    },
+    Entry {
         name: "null-data",
         letter: Some('z'),
         also: Also::Nothing,

@@ -7,7 +7,7 @@ ghost use Rattle.regex_search_core.specs.Found.{found_of};
 ghost use Rattle.regex_search_core.specs.Search.{whole};
 ghost use Rattle.nfa_engines.specs.Lists.{AreDisjoint, IsInside};
 ghost use Rattle.nfa_grep.specs.Meant.{Mean, all_found, is_found, span_of};
-ghost use Rattle.nfa_grep.specs.Printed.{has_colours, is_selected, mark_of, painted_line, piece, shown};
+ghost use Rattle.nfa_grep.specs.Printed.{has_colours, has_text, is_selected, mark_of, painted_line, piece, shown};
 ghost use Rattle.nfa_grep.specs.Printed.{shown_if_selected, shown_matches, shown_whole, text_of};
 ghost use Rattle.text_lines.specs.Lines.{with_end};
 
@@ -124,7 +124,8 @@ impl<'p> Grep<'p> {
         ensures kept { self.new ≡ self.old }
     {
         let mark = self.mark(line)?;
-        append_head(self.options, place, &mark, out)?;
+        let some = has_text(self.options, line);
+        append_head(self.options, place, &mark, some, out)?;
         if has_colours(self.options, place.end) {
             return self.append_painted(line, out);
         }
@@ -175,6 +176,16 @@ fn has_colours(options: Options, end: u8) -> bool
         }
 }
 
+/// Returns whether the line has a byte before its end.
+fn has_text(options: Options, line: &[u8]) -> bool
+    ensures { result ≡ has_text options line.now }
+{
+    match line {
+        [] => false,
+        [first, ..] => *first != options.end,
+    }
+}
+
 /// Appends each match that is not empty as a line of its own.
 fn append_pieces(
     options: Options,
@@ -218,7 +229,7 @@ fn append_piece(
         offset: place.offset + found.start() as u64,
         ..place
     };
-    append_head(options, at, mark, out)?;
+    append_head(options, at, mark, true, out)?;
     let text = &line[found.start()..found.end()];
     append_painted(options.coloured, Colour::Match, text, out)?;
     out.push(options.end)?;
