@@ -1,5 +1,5 @@
--- Which paths are left out by the lines of files such as `.gitignore`. A line has a glob, and each name of a path, which
--- slashes part, has to match a part of it. Texts are lists of characters.
+-- Which paths the lines of files such as `.gitignore` leave out. A line has a glob, and each of the names that slashes
+-- separate in a path has to match a part of it. Texts are lists of characters.
 use Rattle.std.specs.Prelude.{ℕ, ◌+◌, ◌-◌, ◌%◌, Bool, true, false, not, ◌&&◌, ◌||◌, List, [], ◌∷◌, ◌++◌, length, map, if◌then◌else◌, ◌==◌, nat_le, Option, None, Some, drop, take, position, reverse, codes, slice_get}
 use Rattle.std.specs.List.{list_all, list_any, slice_split}
 use Rattle.std.specs.Str.{chars}
@@ -35,7 +35,7 @@ ends_in_escape line = (count_at_end (λ c. c == 92) line % 2) == 1
 abbrev pub without_blanks : List Letter → List Letter
 without_blanks letters = take (length letters - count_at_end (λ l. means l 32) letters) letters
 
--- whether it is a slash, which parts names also after a backslash
+-- whether it is a slash, which separates names also after a backslash
 abbrev pub is_slash : Letter → Bool
 is_slash letter = letter.value == 47
 
@@ -86,8 +86,8 @@ rule_of_letters depth (letter ∷ letters) =
     if means letter 35 then None
     else (if means letter 33 then rule_of_glob depth true letters else rule_of_glob depth false (letter ∷ letters))
 
--- What a line says, which has no line feed and no carriage return before it, of a file in a folder with a path of so
--- many names.
+-- What a line says, without its line feed and a carriage return before it. Its file is in a folder whose path has
+-- `depth` names.
 abbrev pub rule_of_line : ℕ → List ℕ → Option PathRule
 rule_of_line depth line =
     if ends_in_escape line then None else rule_of_letters depth (without_blanks (letters_after false line))

@@ -1,7 +1,8 @@
 //! Globs, as a shell has them: their parts, and the names that they match.
 ghost use Rattle.std.specs.Prelude.{◌≡◌, ◌≤◌, ◌<◌, ◌++◌, IfOk, IfSome, OnOk, false, length, map, option_map, position};
 ghost use Rattle.std.specs.Str.{chars};
-ghost use Rattle.grep_options.specs.Globs.{has_open_set, is_open_set, letters_after, means, negation, part_at, part_of, parts_after};
+ghost use Rattle.grep_options.specs.Globs.{has_open_set, is_open_set, letters_after, means, negation, part_at};
+ghost use Rattle.grep_options.specs.Globs.{part_of, parts_after};
 ghost use Rattle.grep_options.specs.Globs.{set_after, set_letters, set_or_bracket};
 
 use std::alloc::{AllocError, Global};

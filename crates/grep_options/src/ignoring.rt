@@ -13,7 +13,7 @@ use std::alloc::{AllocError, Global};
 /// What a line says of paths.
 #[derive(Drop)]
 pub struct IgnoreRule {
-    /// The path of the folder of the file has so many names.
+    /// How many names the path of the folder of the file has.
     pub depth: usize,
     /// Paths are taken in again, and not left out.
     pub included: bool,
@@ -175,7 +175,7 @@ fn has_slash(letters: &[Letter]) -> bool
     letters.iter().any(|letter| is_slash(*letter))
 }
 
-/// Returns whether the character parts names: a slash does, also after a backslash.
+/// Returns whether the character separates names: a slash does, also after a backslash.
 pub fn is_slash(letter: Letter) -> bool
     ensures { result ≡ is_slash letter }
 {

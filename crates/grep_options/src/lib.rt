@@ -1,8 +1,8 @@
 //! What `nfa_grep` is asked for, and all of it that needs no regex: its command line (`arguments`, `words`, `flags`,
 //! `command`, `given`), what that says (`options`) and why it cannot be obeyed (`error`); the texts of its patterns
 //! (`patterns`) and their syntax (`syntax`), globs (`glob`, `matching`) and the files that they leave out (`rules`,
-//! `chosen`), also those of files such as `.gitignore` (`ignoring`, `ignored`, `ignores`), the paths in folders (`walk`), names that are not text (`marked`), and what standard input and output are
-//! (`output`).
+//! `chosen`), the rules of files such as `.gitignore` and what these leave out (`ignoring`, `ignored`, `ignores`), the
+//! paths in folders (`walk`), names that are not text (`marked`), and what standard input and output are (`output`).
 #![tactic(auto)]
 
 pub mod arguments;

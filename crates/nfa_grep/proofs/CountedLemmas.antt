@@ -147,8 +147,8 @@ module _ (options : Options) (res : List Re) where
           read_is = rw whole refl;
         }
 
-    module _ {text : List ℕ} {input : Option (List ℕ)} {count : ℕ} (counting : IsCounting options res n text input count)
-      where
+    module _ {text : List ℕ} {input : Option (List ℕ)} {count : ℕ}
+        (counting : IsCounting options res n text input count) where
         -- more lines were counted
         pub counting-on : (after : Option (List ℕ)) (selected : ℕ)
             → IfSome input (λ rest. HasCounted options res (n - count) rest after selected)

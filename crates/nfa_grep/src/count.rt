@@ -27,10 +27,10 @@ const NONE: Counted = Counted {
     len: 0,
 };
 
-/// Returns how many lines of an input are selected, up to the limit. Nothing is read after the line with which the limit
-/// is reached.
+/// Returns how many lines of an input are selected, up to the limit. Nothing is read after the line with which the
+/// limit is reached.
 ///
-/// Lines are searched where the reader holds them. So the memory is bounded by one line.
+/// Lines are searched where the reader holds them, so the memory is bounded by one line.
 pub fn count_lines<R: BufRead>(
     alloc: Global,
     grep: &mut Grep<'_>,

@@ -3,29 +3,29 @@ use std::alloc::{AllocError, Global};
 use std::io::IsTerminal;
 use std::time::{Clock, Duration};
 
-/// So many columns has each terminal before the last one.
+/// Each terminal has at least this many columns before the last one.
 const COLUMNS: usize = 79;
 
 /// As many blanks.
 const BLANKS: &str =
     "                                                                               ";
 
-/// So many milliseconds are at least between two lines.
+/// At least this many milliseconds are between two lines.
 const PAUSE: u64 = 100;
 
 /// How far the search is.
 #[derive(Clone, Copy)]
 pub struct Progress {
     shown: bool,
-    /// So many inputs were searched.
+    /// How many inputs were searched.
     searched: u64,
     /// When the next line is written.
     due: Duration,
 }
 
 impl Progress {
-    /// Returns that of a search that begins. It is shown if it is wanted, standard error is a terminal, and the output
-    /// is not.
+    /// Returns the progress of a search that begins. It is shown if it is wanted, standard error is a terminal, and
+    /// the output is not.
     pub fn new(rt: &HostRuntime, wanted: bool) -> Progress {
         Progress {
             shown: wanted && rt.stderr().is_terminal() && !rt.stdout().is_terminal(),

@@ -20,4 +20,5 @@ returns-else-shows-clause-printed g c =
     IfOk-weaker c.count_lines.result _ _ (λ count counts res meant.
     counts-report request.report c.args.grep.now.options res request.name.now request.context request.used request.limit
     (g.R.Read.remaining c.args.input.now) (g.R.Read.remaining c.count_lines.new.input)
-    (g.W.Write.contents c.args.out.now) count hidden (counts res meant)) (rw c.limit.ensures at c.count_lines.ensures.counted)
+    (g.W.Write.contents c.args.out.now) count hidden (counts res meant))
+    (rw c.limit.ensures at c.count_lines.ensures.counted)

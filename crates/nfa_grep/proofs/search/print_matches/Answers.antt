@@ -17,7 +17,8 @@ returns-clause-printed g c = λ res meant.
     let after = g.W.Write.contents c.write_bytes.new.out in
     let appends : Appends middle after last = rw c.deref.ensures.value at c.in_ok-write_bytes.ensures in
     IfSome_then (g.R.Read.remaining c.args.input.now) (c.in_ok-count.ensures.printed res meant) (λ text lines.
-    let all = printed_if request.report options res request.name.now request.context request.used request.limit text in (
+    let all = printed_if request.report options res request.name.now request.context request.used request.limit text
+    in (
       subst (λ (l : List ℕ). Appends before after (all ++ l))
           (last-is ∙ ap (summary request.report options request.name.now) lines.1)
           (Appends-trans before middle after all last lines.0 appends),
