@@ -1,5 +1,5 @@
 -- What is left of a search from a first start on has its answers, and a search without an accepting path has none.
-use Rattle.nfa_paths.proofs.Common.{false, refl, sym, subst, arith, None, Option, Some, IfSome, Search, MatchKind, Automaton, IsBoolAnswer, IsFindAnswer, IsHalfAnswer}
+use Rattle.nfa_paths.proofs.Common.{false, refl, sym, subst, arith, None, Option, Some, IfNone, IfSome, Search, MatchKind, Automaton, IsBoolAnswer, IsFindAnswer, IsHalfAnswer}
 use Rattle.nfa_engines.specs.Laws.{MatchesNothing, OfSlots}
 use Rattle.nfa_engines.specs.StartLaws.{IsUnbound, StartsArePassed}
 use Rattle.nfa_prefix.specs.PrefixLaws.{NothingIsNoAnswer, NothingIsNoHalfMatch, NothingIsNoMatch, NothingIsNotFound}
@@ -44,6 +44,11 @@ pub of-part : {A : Type 0} {P Q : A → Type 0} → ((a : A) → P a → Q a) �
     → IfSome part Q
 of-part each None h = tt
 of-part each (Some a) h = each a h
+
+-- the same, if there is no part
+pub none-weaker : {A P Q : Type 0} → (P → Q) → (part : Option A) → IfNone part P → IfNone part Q
+none-weaker then None h = then h
+none-weaker then (Some a) h = tt
 
 -- a search has its own half matches
 pub halves-self : (nfa : Automaton) (kind : MatchKind) (x : Search) → HalvesAs nfa kind x x

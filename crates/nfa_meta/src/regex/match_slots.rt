@@ -1,10 +1,10 @@
 //! Searches for slots, if the NFA has only the two of the match.
-ghost use Rattle.std.specs.Prelude.{◌≡◌, ◌⊎◌, ◌<◌, IfErr, IfNone, IfOk, IfSome, Some, length, true};
+ghost use Rattle.std.specs.Prelude.{◌≡◌, ◌⊎◌, ◌<◌, IfErr, IfNone, IfOk, IfSome, Some, length, option_map, true};
 ghost use Rattle.regex_search_core.specs.Found.{found_of};
 ghost use Rattle.regex_search_core.specs.Groups.{slot_count};
 ghost use Rattle.regex_search_core.specs.Search.{search_of};
 ghost use Rattle.regex_search_core.specs.Slots.{match_of};
-ghost use Rattle.nfa_paths.specs.Paths.{IsAnswer, IsFindAnswer};
+ghost use Rattle.nfa_paths.specs.Paths.{IsAnswer, IsFindAnswer, is_utf8_empty};
 ghost use Rattle.nfa_search_base.specs.Lists.{IsInside};
 ghost use Rattle.nfa_choice.specs.ChoiceState.{kind_in};
 ghost use Rattle.nfa_meta.specs.RegexState.{KeepsRegex};
@@ -12,6 +12,7 @@ ghost use Rattle.nfa_meta.specs.MatchSlots.{match_slots};
 ghost use Rattle.nfa_meta.specs.WindowRuns.{AnswersAs, HasNoMatch, IsWindowOf, NeedsPart};
 
 use crate::regex::Regex;
+use nfa_prefix::laws::nothing_has_no_answer;
 use regex_search_core::{Captures, Input, Match, NonMaxUsize};
 
 impl Regex {
@@ -101,8 +102,8 @@ impl Regex {
         self.match_in_window(input)
     }
 
-    /// Returns the match of the search, if the lazy DFA finds it in a window. Otherwise returns the input that the
-    /// choice has to search, or `None` in it if nothing matches.
+    /// Returns the match of the search, if the lazy DFA finds it: at the start of the span if the search is anchored, or
+    /// in a window. Otherwise returns the input that the choice has to search, or `None` in it if nothing matches.
     pub(super) fn match_in_window<'h>(
         &mut self,
         input: Input<'h>,
@@ -121,11 +122,45 @@ impl Regex {
         ensures same { self.new.choice ≡ self.old.choice }
         ensures keeps { KeepsRegex self.old self.new }
     {
+        if let Some(found) = self.found_anchored(input) {
+            return found.ok_or(None);
+        }
         if let Some(found) = self.find_by_dfa(input) {
             self.matched_at_first = self.is_at_first(&input, found);
             return found.ok_or(None);
         }
         Err(self.part_to_search(input))
+    }
+
+    /// Returns the match of a search that is anchored, if the lazy DFA finds it. Returns `Some(None)` if nothing
+    /// matches.
+    #[inline(always)]
+    fn found_anchored<'h>(&mut self, input: Input<'h>) -> Option<Option<Match>>
+        ensures answer { let x = search_of input.entry in IfSome result (λ found.
+            IsFindAnswer self.old.choice.nfa (kind_in self.old.choice) x.earliest x (option_map found_of found)) }
+        ensures pattern { IfSome result (λ found.
+            IfSome found (λ m. (found_of m).pattern < length self.old.choice.nfa.patterns)) }
+        ensures nothing { IfSome result (λ found.
+            IfNone found (HasNoMatch self.old.choice.nfa (kind_in self.old.choice) (search_of input.entry))) }
+        ensures same { self.new.choice ≡ self.old.choice }
+        ensures keeps { KeepsRegex self.old self.new }
+    {
+        if !input.get_anchored().is_anchored() {
+            return None;
+        }
+        nothing_has_no_answer();
+        if self.skips_split_matches() {
+            return None;
+        }
+        self.find_anchored(input)
+    }
+
+    /// Whether a search skips empty matches that split a codepoint.
+    fn skips_split_matches(&self) -> bool
+        ensures { result ≡ is_utf8_empty self.now.choice.nfa }
+    {
+        let nfa = self.choice.get_nfa();
+        nfa.has_empty() && nfa.is_utf8()
     }
 }
 
