@@ -66,7 +66,7 @@ width_of numbers None = 19
 
 -- What comes before a line or a match: the name of the input, the mark, the number, the offset and a tab, if they are
 -- wanted. `some` says that there is some text after them.
-abbrev pub head : Options → ℕ → List ℕ → List ℕ → ℕ → ℕ → Bool → List ℕ
+unfoldable pub head : Options → ℕ → List ℕ → List ℕ → ℕ → ℕ → Bool → List ℕ
 head options end name mark number offset some =
     name_label options end name
     ++ (label_if options.which options.coloured Number end mark

@@ -107,6 +107,7 @@ fn append_mark(options: Options, end: u8, mark: &[u8], out: &mut Vec<u8>) -> Res
 
 /// Appends what comes before a line or a match: the name of the input, the mark, the number of the line, the offset and
 /// a tab, if they are wanted. There is `some` text after them.
+#[tactic(auto, unfolding(crate::specs::Printed::head))]
 pub fn append_head(
     options: Options,
     place: Place<'_>,
