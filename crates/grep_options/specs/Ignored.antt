@@ -1,6 +1,6 @@
 -- Which paths the lines of files such as `.gitignore` leave out. A line has a glob, and each of the names that slashes
 -- separate in a path has to match a part of it. Texts are lists of characters.
-use Rattle.std.specs.Prelude.{ℕ, ◌+◌, ◌-◌, ◌%◌, Bool, true, false, not, ◌&&◌, ◌||◌, List, [], ◌∷◌, ◌++◌, length, map, if◌then◌else◌, ◌==◌, nat_le, Option, None, Some, drop, take, position, reverse, codes, slice_get}
+use Rattle.std.specs.Prelude.{ℕ, ◌-◌, ◌%◌, Bool, true, false, not, ◌&&◌, ◌||◌, List, [], ◌∷◌, ◌++◌, length, if◌then◌else◌, ◌==◌, nat_le, Option, None, Some, drop, take, position, reverse, codes, slice_get}
 use Rattle.std.specs.List.{list_all, list_any, slice_split}
 use Rattle.std.specs.Str.{chars}
 pub use Rattle.grep_options.specs.declared.ignoring.IgnoreRule.{IgnoreRule}

@@ -1,7 +1,7 @@
 //! What the arguments of the command line ask for.
 use crate::error::OptionsError;
-use crate::flags::with_flags;
-use crate::given::{file_rules_of, folder_rules_of, texts_of};
+use crate::flags::all_args;
+use crate::given::{push_file_rules, push_folder_rules, push_texts};
 use crate::options::{BinaryFiles, Bounds, Context, Devices, Folders, Options, Report, When};
 use crate::rules::Rule;
 use crate::syntax::Syntax;
@@ -94,7 +94,16 @@ pub enum Command<'w> {
 /// Reads the split arguments, the first of which is the name of the program. Fails if the value of `-m` is not a
 /// number, or if allocation failed.
 pub fn parse<'w>(alloc: Global, words: &'w [&'w str]) -> Result<Command<'w>, OptionsError> {
-    let command = clap::Command::new(alloc, "nfa_grep")
+    let args = all_args(alloc)?;
+    match without_args(alloc).args(args)?.try_get_matches_from(words) {
+        Ok(matches) => Ok(Command::Search(read_matches(alloc, &matches)?)),
+        Err(error) => Ok(Command::Say(error)),
+    }
+}
+
+/// Returns the command, without its arguments.
+fn without_args<'w>(alloc: Global) -> clap::Command<'w> {
+    clap::Command::new(alloc, "nfa_grep")
         .about("Prints the lines in which a pattern matches.")
         .version(VERSION)
         .override_usage(USAGE)
@@ -104,32 +113,31 @@ pub fn parse<'w>(alloc: Global, words: &'w [&'w str]) -> Result<Command<'w>, Opt
         // An option may be given several times.
         .args_override_self(true)
         // The beginning of a long option that no other one has will do.
-        .infer_long_args(true);
-    match with_flags(alloc, command)?.try_get_matches_from(words) {
-        Ok(matches) => Ok(Command::Search(read_matches(alloc, &matches)?)),
-        Err(error) => Ok(Command::Say(error)),
-    }
+        .infer_long_args(true)
 }
 
 fn read_matches<'w>(
     alloc: Global,
     matches: &ArgMatches<'w>,
 ) -> Result<Arguments<'w>, OptionsError> {
-    // Errors come first, while there are no lists to let go.
     let limit = limit_of(matches.get_str("max-count"))?;
     let context = context_of(matches)?;
-    let file_rules = file_rules_of(alloc, matches)?;
-    let folder_rules = folder_rules_of(alloc, matches)?;
-    let texts = texts_of(alloc, matches)?;
-    let mut patterns = strs_of(alloc, matches, "regexp")?;
-    let pattern_files = strs_of(alloc, matches, "file")?;
-    let mut files = strs_of(alloc, matches, "words")?;
-    // Without -e and -f, the first argument is the pattern.
-    if patterns.is_empty() && pattern_files.is_empty() && !files.is_empty() {
-        patterns.push(files.remove(0))?;
-    }
-    Ok(Arguments {
-        options: options_of(matches, files.len() > 1),
+    let mut arguments = without_lists(alloc, matches, limit, context);
+    fill_rules(alloc, matches, &mut arguments)?;
+    fill_words(matches, &mut arguments)?;
+    arguments.options = options_of(matches, arguments.files.len() > 1);
+    Ok(arguments)
+}
+
+/// Returns the arguments, without those of which there may be several.
+fn without_lists<'w>(
+    alloc: Global,
+    matches: &ArgMatches<'w>,
+    limit: u64,
+    context: Context<'w>,
+) -> Arguments<'w> {
+    Arguments {
+        options: options_of(matches, false),
         report: report_of(matches),
         limit,
         context,
@@ -145,26 +153,52 @@ fn read_matches<'w>(
         silent: matches.get_flag("no-messages"),
         progress: matches.get_flag("progress"),
         line_buffered: matches.get_flag("line-buffered"),
-        patterns,
-        pattern_files,
-        files,
-        file_rules,
-        folder_rules,
-        texts,
-    })
+        patterns: Vec::new(alloc),
+        pattern_files: Vec::new(alloc),
+        files: Vec::new(alloc),
+        file_rules: Vec::new(alloc),
+        folder_rules: Vec::new(alloc),
+        texts: Vec::new(alloc),
+    }
 }
 
-/// Returns the values of the option of this name.
-fn strs_of<'w>(
+/// Reads the globs, and the other values that have to be text. Fails if a glob has a class.
+fn fill_rules<'w>(
     alloc: Global,
     matches: &ArgMatches<'w>,
+    arguments: &mut Arguments<'w>,
+) -> Result<(), OptionsError> {
+    push_file_rules(alloc, matches, &mut arguments.file_rules)?;
+    push_folder_rules(alloc, matches, &mut arguments.folder_rules)?;
+    push_texts(matches, &mut arguments.texts)?;
+    Ok(())
+}
+
+/// Reads the patterns, and the names of files. Without `-e` and `-f`, the first argument is the pattern.
+fn fill_words<'w>(
+    matches: &ArgMatches<'w>,
+    arguments: &mut Arguments<'w>,
+) -> Result<(), AllocError> {
+    push_strs(matches, "regexp", &mut arguments.patterns)?;
+    push_strs(matches, "file", &mut arguments.pattern_files)?;
+    push_strs(matches, "words", &mut arguments.files)?;
+    let given = !arguments.patterns.is_empty() || !arguments.pattern_files.is_empty();
+    if !given && !arguments.files.is_empty() {
+        arguments.patterns.push(arguments.files.remove(0))?;
+    }
+    Ok(())
+}
+
+/// Appends the values of the option of this name.
+fn push_strs<'w>(
+    matches: &ArgMatches<'w>,
     name: &str,
-) -> Result<Vec<&'w str>, AllocError> {
-    let mut values = Vec::new(alloc);
+    values: &mut Vec<&'w str>,
+) -> Result<(), AllocError> {
     if let Some(given) = matches.get_strs(name) {
         values.extend_from_slice(given)?;
     }
-    Ok(values)
+    Ok(())
 }
 
 fn options_of(matches: &ArgMatches<'_>, several: bool) -> Options {

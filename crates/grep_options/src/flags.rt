@@ -4,16 +4,14 @@ mod entry;
 mod printing;
 mod selecting;
 
-use crate::flags::entry::{Also, Entry, Takes, arg_of, with_each};
+use crate::flags::entry::{Also, Entry, Takes, arg_of, push_each};
 use crate::flags::printing::{COLOURS, LINES, NAMES, REPORTS};
 use crate::flags::selecting::{FILES, KINDS, LIMITS, PATTERNS};
-use clap::{Arg, Command};
+use clap::Arg;
 use std::alloc::{AllocError, Global};
 
-/// All options, in the order of the help.
-const TABLES: &[&[Entry]] = &[
-    PATTERNS, REPORTS, LIMITS, LINES, NAMES, FILES, KINDS, COLOURS,
-];
+/// So many tables there are.
+const TABLES: usize = 8;
 
 /// The arguments that belong to no option: the pattern if there is no `-e` and no `-f`, and the files.
 const WORDS: Entry = Entry {
@@ -25,13 +23,28 @@ const WORDS: Entry = Entry {
     help: "The pattern, unless -e or -f is given, and the files",
 };
 
-/// Adds all options, and the other arguments.
-pub fn with_flags<'w>(alloc: Global, command: Command<'w>) -> Result<Command<'w>, AllocError> {
-    let mut command = command;
-    for entries in TABLES {
-        command = with_each(alloc, command, *entries)?;
+/// Returns all options, and the other arguments.
+pub fn all_args<'w>(alloc: Global) -> Result<Vec<Arg<'w>>, AllocError> {
+    let mut args = Vec::new(alloc);
+    for number in 0..TABLES {
+        push_each(alloc, table(number), &mut args)?;
     }
-    command.arg(words_argument(alloc)?)
+    args.push(words_argument(alloc)?)?;
+    Ok(args)
+}
+
+/// Returns the table of this number, in the order of the help.
+fn table(number: usize) -> &'static [Entry] {
+    match number {
+        0 => PATTERNS,
+        1 => REPORTS,
+        2 => LIMITS,
+        3 => LINES,
+        4 => NAMES,
+        5 => FILES,
+        6 => KINDS,
+        _ => COLOURS,
+    }
 }
 
 /// The arguments that belong to no option. Without `-e` and `-f` there has to be one.

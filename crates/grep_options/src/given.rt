@@ -13,26 +13,25 @@ const TEXTS: &[&str] = &[
     "group-separator",
 ];
 
-/// Returns the rules of `--include` and `--exclude`, in order. Fails if a glob has a class.
-pub fn file_rules_of<'w>(
+/// Appends the rules of `--include` and `--exclude`, in order, to no rules. Fails if a glob has a class.
+pub fn push_file_rules<'w>(
     alloc: Global,
     matches: &ArgMatches<'w>,
-) -> Result<Vec<Rule<'w>>, OptionsError> {
-    let mut rules = Vec::new(alloc);
-    push_rules(alloc, matches, "include", &mut rules)?;
-    push_rules(alloc, matches, "exclude", &mut rules)?;
+    rules: &mut Vec<Rule<'w>>,
+) -> Result<(), OptionsError> {
+    push_rules(alloc, matches, "include", rules)?;
+    push_rules(alloc, matches, "exclude", rules)?;
     rules.sort_by_key(|rule| rule.place)?;
-    Ok(rules)
+    Ok(())
 }
 
-/// Returns the rules of `--exclude-dir`. Fails if a glob has a class.
-pub fn folder_rules_of<'w>(
+/// Appends the rules of `--exclude-dir`. Fails if a glob has a class.
+pub fn push_folder_rules<'w>(
     alloc: Global,
     matches: &ArgMatches<'w>,
-) -> Result<Vec<Rule<'w>>, OptionsError> {
-    let mut rules = Vec::new(alloc);
-    push_rules(alloc, matches, "exclude-dir", &mut rules)?;
-    Ok(rules)
+    rules: &mut Vec<Rule<'w>>,
+) -> Result<(), OptionsError> {
+    push_rules(alloc, matches, "exclude-dir", rules)
 }
 
 /// Appends a rule for each value of the option. Fails if a glob has a class.
@@ -66,13 +65,15 @@ fn without_slashes<'w>(name: &str, glob: &'w str) -> &'w str {
     glob.trim_end_matches('/')
 }
 
-/// Returns the values of options that have to be text.
-pub fn texts_of<'w>(alloc: Global, matches: &ArgMatches<'w>) -> Result<Vec<&'w str>, AllocError> {
-    let mut texts = Vec::new(alloc);
+/// Appends the values of options that have to be text.
+pub fn push_texts<'w>(
+    matches: &ArgMatches<'w>,
+    texts: &mut Vec<&'w str>,
+) -> Result<(), AllocError> {
     for name in TEXTS {
         if let Some(given) = matches.get_strs(name) {
             texts.extend_from_slice(given)?;
         }
     }
-    Ok(texts)
+    Ok(())
 }

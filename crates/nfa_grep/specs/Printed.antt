@@ -58,8 +58,8 @@ tab_if options some =
     if (options.tabbed && some) && (options.named || (options.which || (options.numbers || options.offsets)))
     then 9 ∷ [] else []
 
--- How wide the numbers of lines and offsets of an input are: as wide as its size in bytes, or, if lines are numbered, as
--- that and one more. If the size is not known, they are as wide as the largest one that an input may have.
+-- How wide the numbers of lines and offsets of an input are: as wide as its size in bytes, or, if lines are numbered,
+-- as that and one more. If the size is not known, they are as wide as the largest one that an input may have.
 abbrev pub width_of : Bool → Option ℕ → ℕ
 width_of numbers (Some size) = length (decimal (if numbers then size + 1 else size))
 width_of numbers None = 19

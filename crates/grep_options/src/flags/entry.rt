@@ -1,5 +1,5 @@
 //! An option of a table, and the option that `clap` reads for it.
-use clap::{Arg, ArgAction, Command};
+use clap::{Arg, ArgAction};
 use std::alloc::{AllocError, Global};
 
 /// An option.
@@ -45,23 +45,61 @@ pub enum Takes {
     Words(&'static str),
 }
 
-/// Adds these options.
-pub fn with_each<'w>(
+/// Appends these options.
+pub fn push_each<'w>(
     alloc: Global,
-    command: Command<'w>,
     entries: &[Entry],
-) -> Result<Command<'w>, AllocError> {
-    let mut command = command;
+    args: &mut Vec<Arg<'w>>,
+) -> Result<(), AllocError> {
     for entry in entries {
-        command = command.arg(arg_of(alloc, *entry)?)?;
+        args.push(arg_of(alloc, *entry)?)?;
     }
-    Ok(command)
+    Ok(())
 }
 
 /// Returns the option, as `clap` has it.
 pub fn arg_of<'w>(alloc: Global, entry: Entry) -> Result<Arg<'w>, AllocError> {
-    let arg = with_value(started(alloc, entry), entry.takes);
-    with_name(with_letter(arg, entry), entry)?.overrides_with_all(entry.rivals)
+    with_name(alloc, entry)?.overrides_with_all(entry.rivals)
+}
+
+/// Returns the option, without what it overrides.
+fn with_name<'w>(alloc: Global, entry: Entry) -> Result<Arg<'w>, AllocError> {
+    match entry.also {
+        Also::NoName => Ok(with_value(alloc, entry)),
+        Also::Nothing => Ok(with_value(alloc, entry).long(entry.name)),
+        Also::Name(other) => with_value(alloc, entry).long(entry.name).alias(other),
+        Also::Letter(other) => with_value(alloc, entry).long(entry.name).short_alias(other),
+    }
+}
+
+/// Returns the option, without its name.
+fn with_value<'w>(alloc: Global, entry: Entry) -> Arg<'w> {
+    match entry.takes {
+        Takes::Nothing | Takes::Help => with_letter(alloc, entry),
+        Takes::One(name) | Takes::Many(name) => named(alloc, entry, name),
+        Takes::OneOf(name, values) => named(alloc, entry, name).value_parser(values),
+        Takes::Optional(name, values, default) => named(alloc, entry, name)
+            .value_parser(values)
+            .num_args(..=1)
+            .require_equals(true)
+            .default_missing_value(default),
+        Takes::Words(name) => with_letter(alloc, entry).value_name(name).num_args(0..),
+    }
+}
+
+/// Returns the option, of which the help calls the value this.
+fn named<'w>(alloc: Global, entry: Entry, name: &'static str) -> Arg<'w> {
+    with_letter(alloc, entry)
+        .value_name(name)
+        .allow_hyphen_values(true)
+}
+
+/// Returns the option, without its name and what its value is.
+fn with_letter<'w>(alloc: Global, entry: Entry) -> Arg<'w> {
+    match entry.letter {
+        Some(letter) => started(alloc, entry).short(letter),
+        None => started(alloc, entry),
+    }
 }
 
 /// Returns the option, without how it is written and what its value is.
@@ -79,54 +117,4 @@ fn action_of(takes: Takes) -> ArgAction {
         Takes::One(_) | Takes::OneOf(_, _) | Takes::Optional(_, _, _) => ArgAction::Set,
         Takes::Many(_) | Takes::Words(_) => ArgAction::Append,
     }
-}
-
-/// Adds the letter, if there is one.
-fn with_letter<'w>(arg: Arg<'w>, entry: Entry) -> Arg<'w> {
-    match entry.letter {
-        Some(letter) => arg.short(letter),
-        None => arg,
-    }
-}
-
-/// Adds the name, and how else the option is written.
-fn with_name<'w>(arg: Arg<'w>, entry: Entry) -> Result<Arg<'w>, AllocError> {
-    match entry.also {
-        Also::NoName => Ok(arg),
-        also => with_alias(arg.long(entry.name), also),
-    }
-}
-
-/// Adds how else the option is written.
-fn with_alias<'w>(arg: Arg<'w>, also: Also) -> Result<Arg<'w>, AllocError> {
-    match also {
-        Also::Name(other) => arg.alias(other),
-        Also::Letter(other) => arg.short_alias(other),
-        Also::Nothing | Also::NoName => Ok(arg),
-    }
-}
-
-/// Adds what the value is.
-fn with_value<'w>(arg: Arg<'w>, takes: Takes) -> Arg<'w> {
-    match takes {
-        Takes::Nothing | Takes::Help => arg,
-        Takes::One(name) | Takes::Many(name) => named(arg, name),
-        Takes::OneOf(name, values) => named(arg, name).value_parser(values),
-        Takes::Optional(name, values, default) => {
-            with_default(named(arg, name).value_parser(values), default)
-        }
-        Takes::Words(name) => arg.value_name(name).num_args(0..),
-    }
-}
-
-/// Adds what the help calls the value.
-fn named<'w>(arg: Arg<'w>, name: &'static str) -> Arg<'w> {
-    arg.value_name(name).allow_hyphen_values(true)
-}
-
-/// Adds what the value is if it is left out.
-fn with_default<'w>(arg: Arg<'w>, value: &'static str) -> Arg<'w> {
-    arg.num_args(..=1)
-        .require_equals(true)
-        .default_missing_value(value)
 }

@@ -1,6 +1,6 @@
 -- The names, or what is left of them, are too few for the parts after the first one.
-use Rattle.std.proofs.Common.{◌≡◌, ◌∙◌, ◌-◌, ◌==◌, Bor, List, [], ap, drop, false, get_or, length, refl, sym, take}
-use Rattle.grep_options.specs.Globs.{Letter, is_match, is_nil, some_rest, takes_first}
+use Rattle.std.proofs.Common.{◌≡◌, ◌∙◌, ◌-◌, Bor, List, [], ap, drop, false, get_or, length, sym, take}
+use Rattle.grep_options.specs.Globs.{Letter, is_match, takes_first}
 use Rattle.grep_options.specs.Ignored.{is_deep, name_fits, path_fits}
 use Rattle.grep_options.proofs.OutcomeLemmas.{same_rest, short_after_star, whole_is_rest}
 use Rattle.grep_options.proofs.PathLemmas.{few_after_first, if_match, if_short, if_too_short, parts_with_deep, parts_with_plain, some_is_more, values}

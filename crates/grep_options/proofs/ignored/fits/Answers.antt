@@ -1,5 +1,5 @@
 -- The glob is compared with the names after the first ones.
-use Rattle.std.proofs.Common.{◌≡◌, ◌∙◌, ◌-◌, List, Bor, ap, drop, length, take}
+use Rattle.std.proofs.Common.{◌∙◌, ◌-◌, List, Bor, ap, drop, length, take}
 use Rattle.std.specs.List.{slice_split}
 use Rattle.grep_options.specs.Globs.{Letter}
 use Rattle.grep_options.specs.Ignored.{is_slash, path_fits, said}

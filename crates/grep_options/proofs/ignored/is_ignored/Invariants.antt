@@ -1,6 +1,5 @@
 -- The rules that are left decide of the path what all decide.
-use Rattle.std.proofs.Common.{◌≡◌, ◌==◌, false, drop, map}
-use Rattle.std.specs.List.{slice_split}
+use Rattle.std.proofs.Common.{◌≡◌, drop, map}
 use Rattle.std.specs.Str.{chars}
 use Rattle.grep_options.specs.Ignored.{is_ignored, left_out, said}
 use Rattle.grep_options.proofs.ignored.is_ignored.Given as goal
