@@ -149,78 +149,78 @@ module _ (options : Options) (res : List Re) where
 
     module _ {text : List ℕ} {input : Option (List ℕ)} {count : ℕ}
         (counting : IsCounting options res n text input count) where
-        -- more lines were counted
-        pub counting-on : (after : Option (List ℕ)) (selected : ℕ)
-            → IfSome input (λ rest. HasCounted options res (n - count) rest after selected)
-            → IsCounting options res n text after (count + selected)
-        counting-on after selected has =
-            let more = rw counting.rest_is at has in
-            let here = more.lines in
-            let rest = more.first.rest in
-            let lines = records options.end rest in
-            let same : n - count - chosen here ≡ n - (count + selected) =
-            omega (arith, more.counted_are.selected_is) in
-            let searched-is : searched options res (n - count) (records options.end counting.rest)
-            ≡ here ++ searched options res (n - (count + selected)) lines =
-            rw (more.first.lines_are, ← same)
-            (searched-after (n - count) here lines more.counted_are.searched_are) in
-            record {
-              rest = rest;
-              rest_is = more.first.left_is;
-              taken = counting.taken ++ concat here;
-              text_is = counting.text_is
-                  ∙ ap (λ (l : List ℕ). counting.taken ++ l)
-                  (text-of-first options.end counting.rest rest here more.first.lines_are)
-                  ∙ sym (append_assoc counting.taken (concat here) rest);
-              count_is = counting.count_is
-                  ∙ ap (λ (l : List (List ℕ)). count + chosen l) searched-is
-                  ∙ omega (
-                    arith,
-                    more.counted_are.selected_is,
-                    chosen-append here (searched options res (n - (count + selected)) lines),
-                  );
-              read_is = counting.read_is
-                  ∙ ap (λ (l : List (List ℕ)). counting.taken ++ concat l) searched-is
-                  ∙ ap (λ (l : List ℕ). counting.taken ++ l)
-                  (concat-append here (searched options res (n - (count + selected)) lines))
-                  ∙ sym (append_assoc counting.taken (concat here) _);
-            }
-
-        -- no line is left to search
-        ended : (after : Option (List ℕ)) → Keeps input after
-            → searched options res (n - count) (records options.end counting.rest) ≡ []
-            → CountsLines options res n (Some text) after count
-        ended after keeps none = (
-          omega (arith, counting.count_is, ap chosen none),
+      -- more lines were counted
+      pub counting-on : (after : Option (List ℕ)) (selected : ℕ)
+          → IfSome input (λ rest. HasCounted options res (n - count) rest after selected)
+          → IsCounting options res n text after (count + selected)
+      counting-on after selected has =
+          let more = rw counting.rest_is at has in
+          let here = more.lines in
+          let rest = more.first.rest in
+          let lines = records options.end rest in
+          let same : n - count - chosen here ≡ n - (count + selected) =
+          omega (arith, more.counted_are.selected_is) in
+          let searched-is : searched options res (n - count) (records options.end counting.rest)
+          ≡ here ++ searched options res (n - (count + selected)) lines =
+          rw (more.first.lines_are, ← same)
+          (searched-after (n - count) here lines more.counted_are.searched_are) in
           record {
-            rest = counting.rest;
-            rest_is = kept after (rw counting.rest_is at keeps);
-            text_is = rw (counting.read_is, none, append-nil counting.taken) counting.text_is;
-          },
-        )
-          where
-            kept : (b : Option (List ℕ)) → Keeps (Some counting.rest) b → b ≡ Some counting.rest
-            kept None keeps = absurd keeps
-            kept (Some xs) keeps = ap Some keeps
+            rest = rest;
+            rest_is = more.first.left_is;
+            taken = counting.taken ++ concat here;
+            text_is = counting.text_is
+                ∙ ap (λ (l : List ℕ). counting.taken ++ l)
+                (text-of-first options.end counting.rest rest here more.first.lines_are)
+                ∙ sym (append_assoc counting.taken (concat here) rest);
+            count_is = counting.count_is
+                ∙ ap (λ (l : List (List ℕ)). count + chosen l) searched-is
+                ∙ omega (
+                  arith,
+                  more.counted_are.selected_is,
+                  chosen-append here (searched options res (n - (count + selected)) lines),
+                );
+            read_is = counting.read_is
+                ∙ ap (λ (l : List (List ℕ)). counting.taken ++ concat l) searched-is
+                ∙ ap (λ (l : List ℕ). counting.taken ++ l)
+                (concat-append here (searched options res (n - (count + selected)) lines))
+                ∙ sym (append_assoc counting.taken (concat here) _);
+          }
 
-        -- nothing was left to read
-        pub counting-end : (after : Option (List ℕ)) → HasNoRecord options.end input → Keeps input after
-            → CountsLines options res n (Some text) after count
-        unfolding searched
-        counting-end after end keeps =
-            let none = rw counting.rest_is at end in
-            ended after keeps (rw none refl)
+      -- no line is left to search
+      ended : (after : Option (List ℕ)) → Keeps input after
+          → searched options res (n - count) (records options.end counting.rest) ≡ []
+          → CountsLines options res n (Some text) after count
+      ended after keeps none = (
+        omega (arith, counting.count_is, ap chosen none),
+        record {
+          rest = counting.rest;
+          rest_is = kept after (rw counting.rest_is at keeps);
+          text_is = rw (counting.read_is, none, append-nil counting.taken) counting.text_is;
+        },
+      )
+        where
+          kept : (b : Option (List ℕ)) → Keeps (Some counting.rest) b → b ≡ Some counting.rest
+          kept None keeps = absurd keeps
+          kept (Some xs) keeps = ap Some keeps
 
-        -- the limit is reached
-        pub counting-stop : count ≡ n → CountsLines options res n (Some text) input count
-        unfolding searched
-        counting-stop reached =
-            let none : n - count ≡ 0 = omega (arith, reached) in
-            ended input (Keeps-refl input) (rw none (searched-none (records options.end counting.rest)))
-          where
-            searched-none : (lines : List (List ℕ)) → searched options res 0 lines ≡ []
-            searched-none [] = refl
-            searched-none (line ∷ lines) = refl
+      -- nothing was left to read
+      pub counting-end : (after : Option (List ℕ)) → HasNoRecord options.end input → Keeps input after
+          → CountsLines options res n (Some text) after count
+      unfolding searched
+      counting-end after end keeps =
+          let none = rw counting.rest_is at end in
+          ended after keeps (rw none refl)
+
+      -- the limit is reached
+      pub counting-stop : count ≡ n → CountsLines options res n (Some text) input count
+      unfolding searched
+      counting-stop reached =
+          let none : n - count ≡ 0 = omega (arith, reached) in
+          ended input (Keeps-refl input) (rw none (searched-none (records options.end counting.rest)))
+        where
+          searched-none : (lines : List (List ℕ)) → searched options res 0 lines ≡ []
+          searched-none [] = refl
+          searched-none (line ∷ lines) = refl
 
 -- what is read where no line is printed after a selected one
 read-searched : (options : Options) (res : List Re) (context : Context) (n : ℕ) (lines : List (List ℕ))
