@@ -3,3 +3,4 @@ mod RowLemmas
 mod FieldLemmas
 mod GoingLemmas
 mod SeveralLemmas
+mod SearchLemmas

@@ -15,6 +15,7 @@ mod pattern;
 mod report;
 mod row;
 mod rows;
+mod search;
 mod selection;
 
 use crate::asked::{AskedError, column_of, selection_of};

@@ -1,18 +1,25 @@
 //! The fields of a line.
-ghost use Rattle.std.specs.Prelude.{◌≡◌, IfOk, IfSome, map, option_map};
+ghost use Rattle.std.specs.Prelude.{◌≡◌, IfOk, IfSome, map, option_map, string_bytes};
 ghost use Rattle.regex_search_core.specs.Search.{whole};
 ghost use Rattle.regex_search_core.specs.Slots.{group_span};
 ghost use Rattle.nfa_engines.specs.Lists.{IsSpanInside, SpansInside};
-ghost use Rattle.log_extractor.specs.Fields.{cut, fields_now};
+ghost use Rattle.log_extractor.specs.Fields.{cut, fields_now, group_of};
+ghost use Rattle.log_extractor.specs.Several.{field_named};
 
+use crate::names::is_name;
 use crate::pattern::{Column, PatternError, columns, compile};
+use crate::search::search_line;
 use nfa_compiler::laws;
 use nfa_meta::Regex;
-use regex_search_core::{Captures, Input, Span};
+use nfa_onepass::OnePass;
+use regex_search_core::{Captures, Span};
 use std::alloc::{AllocError, Global};
 use std::marker::Model;
 
-/// Finds the fields of lines. It owns a regex, and the captures that a search fills.
+/// The most bytes that the sure steps of a parser may take.
+const STEP_BYTES: usize = 1 << 20;
+
+/// Finds the fields of lines. It owns a regex, the sure steps over its matches, and the captures that a search fills.
 ///
 /// A contract sees the text of the pattern.
 #[derive(Drop)]
@@ -21,12 +28,14 @@ pub struct Parser<'p> {
     pattern: &'p str,
     columns: Vec<Column>,
     regex: Regex,
+    steps: OnePass,
     captures: Captures,
 }
 
 impl<'p> Model for Parser<'p> {
     ghost use Rattle.std.specs.Prelude.{◌≡◌, ◌∷◌, [], List, length, map, ℕ};
     ghost use Rattle.regex_search_core.specs.Groups.{groups_at, slot_count};
+    ghost use Rattle.nfa_onepass.specs.Tables.{IsFor};
     ghost use Rattle.nfa_meta.specs.Built.{IsRegexOf};
     ghost use Rattle.log_extractor.specs.Fields.{group_of, named_groups};
 
@@ -36,13 +45,16 @@ impl<'p> Model for Parser<'p> {
 
     ghost invariant = { λ p. IsRegexOf (p.pattern.now ∷ []) p.regex × (p.captures.groups ≡ p.regex.choice.nfa.groups)
         × (length p.captures.slots ≡ slot_count p.regex.choice.nfa.groups)
-        × (map group_of p.columns.items ≡ named_groups 1 (groups_at p.regex.choice.nfa.groups 0)) };
+        × (map group_of p.columns.items ≡ named_groups 1 (groups_at p.regex.choice.nfa.groups 0))
+        × IsFor p.regex.choice.nfa p.steps };
 }
 
 impl<'p> Parser<'p> {
     ghost use Rattle.std.specs.Prelude.{◌≢◌, [], IfErr, OnOk};
     ghost use Rattle.log_extractor.specs.Fields.{IsPatternMistake, IsLinePattern, LinePattern, columns_of, group_of};
+    ghost use Rattle.std.specs.Prelude.{string_bytes};
     ghost use Rattle.log_extractor.specs.Fields.{row};
+    ghost use Rattle.log_extractor.specs.Several.{field_named};
 
     /// Makes a parser of lines of this pattern. Its columns are the named groups, in the order of their numbers.
     ///
@@ -61,11 +73,15 @@ impl<'p> Parser<'p> {
         let Ok(captures) = regex.create_captures(alloc) else {
             return Err(PatternError::Memory);
         };
+        let Ok(steps) = OnePass::new(alloc, regex.get_nfa(), STEP_BYTES) else {
+            return Err(PatternError::Memory);
+        };
         Ok(Parser {
             alloc,
             pattern,
             columns,
             regex,
+            steps,
             captures,
         })
     }
@@ -91,11 +107,52 @@ impl<'p> Parser<'p> {
     {
         laws::searches_find_texts();
         laws::groups_are_those_of_texts();
-        self.regex
-            .search_captures(&Input::new(line), &mut self.captures);
+        laws::compiled_nfas_record_bounds();
+        if !search_line(&mut self.regex, &mut self.steps, line, &mut self.captures) {
+            return Ok(None);
+        }
         let fields = cut_fields(self.alloc, line, &self.captures, &self.columns)?;
         Ok(fields)
     }
+
+    /// Returns the field of the line in the first column of this name, which is `None` also if no column has it. Returns
+    /// `None` if the pattern does not match the line from its start.
+    pub fn parse_field<'l>(&mut self, line: &'l [u8], name: &String) -> Option<Option<&'l [u8]>>
+        ensures field { (p : LinePattern) → IsLinePattern self.old p
+            → option_map (option_map (λ text. text.now)) result
+            ≡ option_map (λ fields. field_named (columns_of p) fields (string_bytes name.now)) (row p line.now) }
+        ensures kept { self.new ≡ self.old }
+    {
+        laws::searches_find_texts();
+        laws::groups_are_those_of_texts();
+        laws::compiled_nfas_record_bounds();
+        if !search_line(&mut self.regex, &mut self.steps, line, &mut self.captures) {
+            return None;
+        }
+        if !self.captures.is_match() {
+            return None;
+        }
+        Some(cut_named(line, &self.captures, &self.columns, name))
+    }
+}
+
+/// Returns what the captures give for the first column of this name, or `None` if no column has it.
+fn cut_named<'l>(
+    line: &'l [u8],
+    captures: &Captures,
+    columns: &[Column],
+    name: &String,
+) -> Option<&'l [u8]>
+    requires { SpansInside (whole line.now) captures.now }
+    ensures { option_map (λ text. text.now) result ≡ field_named (map group_of columns.now)
+        (map (λ column. cut line.now (group_span captures.now column.group)) columns.now) (string_bytes name.now) }
+{
+    for column in columns {
+        if is_name(&column.name, name.as_str()) {
+            return cut_field(line, captures, column.group);
+        }
+    }
+    None
 }
 
 /// Returns what the captures give for each column, or `None` if they are those of no match.

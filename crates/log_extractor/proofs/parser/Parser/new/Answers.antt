@@ -31,4 +31,5 @@ invariant_of-result c = (
       ∙ length-replicate (slot_count c.in_ok-regex.regex.choice.nfa.groups) None,
   compiled-columns c.args.pattern.now c.in_ok-regex.regex.choice.nfa (map group_of c.in_ok-columns.columns.items)
       c.in_ok-regex.ensures.compiled.compiled c.in_ok-columns.ensures.read,
+  search rules,
 )
