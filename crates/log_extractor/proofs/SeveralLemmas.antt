@@ -1,5 +1,7 @@
 -- Several patterns, one after the other.
 use Rattle.std.specs.Global.{Vec}
+use Rattle.std.specs.Slice.{IsItemAt}
+use Rattle.std.proofs.lemmas.Option.{slice_get_past}
 use Rattle.nfa_paths.proofs.Common.{String, Bor, bytes_eq, at_drop_more, drop-drop, length-take, AllZip-left, AllZip-long, ◌≡◌, ◌∙◌, ℕ, zero, suc, ◌+◌, ◌<◌, ◌≤◌, Bool, List, [], ◌∷◌, ◌++◌, length, map, take, drop, get_or, refl, ap, arith, Option, None, Some, IsSomeAnd, if◌then◌else◌, is_some, nat_lt, option_map, slice_get, string_bytes, drop_all, drop_more, get_or-map, length-map, take_more, get_or_from_slice_get, slice_get-map, slice_get_read, slice_get_within, common_steps, false, option_or, ap₂, le-ltb, sym}
 use Rattle.std.specs.declared.alloc.Global.{Global}
 use Rattle.log_extractor.specs.Counts.{value_at}
@@ -91,6 +93,17 @@ pub column-at : (f : Column → Option (List ℕ)) (columns : List Column) (n : 
     → column ≡ get_or columns n column → field_at (map f columns) n ≡ f column
 column-at f columns n column inside at =
     rw (slice_get-map f columns n, slice_get_read columns _ n column refl inside at) refl
+
+-- the name of the column of this number, as a look-up gives it
+pub get-named : (names : List (String Global)) (column : ℕ) (found : Option (Bor (String Global)))
+    → IsItemAt names column found
+    → slice_get (map string_bytes names) column
+    ≡ option_map (λ (name : Bor (String Global)). string_bytes name.now) found
+get-named names column None is =
+    slice_get_past (map string_bytes names) column (omega (arith, length-map names string_bytes, is.3))
+get-named names column (Some name) is =
+    slice_get-map string_bytes names column
+    ∙ ap (option_map string_bytes) (slice_get_read names _ column name.now refl is.3.0 is.1)
 
 -- the row of the line by the only pattern
 pub by-one : (names : List (List ℕ)) (ps : List LabelledPattern) (line : List ℕ) → length ps ≡ 1

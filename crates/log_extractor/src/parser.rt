@@ -115,8 +115,8 @@ impl<'p> Parser<'p> {
         Ok(fields)
     }
 
-    /// Returns the field of the line in the first column of this name, which is `None` also if no column has it. Returns
-    /// `None` if the pattern does not match the line from its start.
+    /// Returns the field of the line in the first column of this name: it is `None` if the match wrote nothing for the
+    /// group, or if no column has the name. Returns `None` if the pattern does not match the line from its start.
     pub fn parse_field<'l>(&mut self, line: &'l [u8], name: &String) -> Option<Option<&'l [u8]>>
         ensures field { (p : LinePattern) → IsLinePattern self.old p
             → option_map (option_map (λ text. text.now)) result

@@ -15,11 +15,11 @@ use nfa_onepass::OnePass;
 use nfa_onepass::laws::only_slots_answer;
 use regex_search_core::{Anchored, Captures, Input, Match};
 
-/// Searches the line from its start. Returns `false` if the regex does not match there. Otherwise the captures are those
-/// of the search.
+/// Searches the line from its start. Returns `false` if the regex does not match there. Otherwise the captures are
+/// those of the search.
 ///
-/// The lazy DFA of the regex finds where the match ends, and sure steps over its bytes find its groups. If a step is not
-/// sure, or if they were not often enough, the regex searches for the groups.
+/// The lazy DFA of the regex finds where the match ends, and sure steps over its bytes find its groups: of an anchored
+/// search, the regex itself gives groups only by slower engines. It does so if a step is not sure.
 pub fn search_line(
     regex: &mut Regex,
     steps: &mut OnePass,

@@ -1,5 +1,5 @@
 -- The slots of the only path over the span of the match are those of the search.
-use Rattle.nfa_paths.proofs.Common.{rules, ◌≡◌, Automaton, IsAutomaton, IfSome, ap, arith, common_steps, found_of, is_some, length, number_of, option_map, search_of, true}
+use Rattle.nfa_paths.proofs.Common.{rules, ◌≡◌, IsAutomaton, IfSome, arith, common_steps, found_of, is_some, length, number_of, option_map, search_of, true}
 use Rattle.nfa_engines.specs.SpanLaws.{cut_to}
 use Rattle.nfa_onepass.specs.Ways.{IsOnly}
 use Rattle.log_extractor.proofs.SearchLemmas.{only-answer, only-spans}

@@ -1,9 +1,9 @@
 -- The field of the name in the row by the only pattern.
-use Rattle.nfa_paths.proofs.Common.{rules, ◌≡◌, ◌∙◌, AllZip-long, List, [], ◌∷◌, ap, arith, common_steps, ℕ, drop, drop-map, false, length, map, sym, None, Option, Some, option_map, slice_get, slice_get-map, string_bytes}
+use Rattle.nfa_paths.proofs.Common.{rules, ◌≡◌, ◌∙◌, AllZip-long, List, [], ◌∷◌, ap, arith, common_steps, ℕ, drop, drop-map, false, length, map, sym, None, Option, Some, option_map, slice_get, string_bytes}
 use Rattle.log_extractor.specs.Counts.{value_at}
 use Rattle.log_extractor.specs.Fields.{field_text}
 use Rattle.log_extractor.specs.Several.{IsLabelledPattern, field_at, row_of_first, union_names}
-use Rattle.log_extractor.proofs.SeveralLemmas.{by-one, value-named, value-none}
+use Rattle.log_extractor.proofs.SeveralLemmas.{by-one, get-named, value-named, value-none}
 use Rattle.log_extractor.proofs.parsers.Parsers.parse_value.Goals as goal
 
 pub returns-in_err-name-clause-value : goal.returns-in_err-name-clause-value
@@ -14,8 +14,9 @@ returns-in_err-name-clause-value c = λ ps are.
     ap (map string_bytes) (c.after_first.ensures ∙ ap (drop 1) c.deref.ensures.value)
     ∙ sym (drop-map string_bytes 1 c.self.inside.names.items) ∙ ap (drop 1) (c.self.invariant ps inside) in
     let one : length ps ≡ 1 = AllZip-long IsLabelledPattern c.args.self.now ps are ∙ c.requires.one in
+    let gone : c.get.result ≡ None = first_of (search rules, grind (arith, common_steps)) in
     let missing : slice_get names c.args.column ≡ None =
-    first_of (search rules, grind (arith, common_steps, slice_get-map)) in
+    rw gone at (get-named c.after_first.result.now c.args.column c.get.result c.get.ensures.lookup) in
     let none : c.from_residual.result ≡ None = first_of (search rules, grind (arith, common_steps)) in
     rw none (value-none names c.args.column ps c.args.line.now one missing
     ∙ ap (value_at c.args.column) (by-one names ps c.args.line.now one are-names))
@@ -30,8 +31,9 @@ returns-in_err-field-clause-value c = λ ps are.
     ap (map string_bytes) (c.after_first.ensures ∙ ap (drop 1) c.deref.ensures.value)
     ∙ sym (drop-map string_bytes 1 c.self.inside.names.items) ∙ ap (drop 1) (c.self.invariant ps inside) in
     let one : length ps ≡ 1 = AllZip-long IsLabelledPattern c.args.self.now ps are ∙ c.requires.one in
+    let found : c.get.result ≡ Some c.in_ok-name.name = first_of (search rules, grind (arith, common_steps)) in
     let here : slice_get names c.args.column ≡ Some name =
-    first_of (search rules, grind (arith, common_steps, slice_get-map)) in
+    rw found at (get-named c.after_first.result.now c.args.column c.get.result c.get.ensures.lookup) in
     let no-field : c.field_by_one.result ≡ None = first_of (search rules, grind (arith, common_steps)) in
     let no-row : None ≡ row_of_first false (name ∷ []) ps line =
     rw no-field at (c.field_by_one.ensures.field ps (rw c.deref_mut.ensures.value inside)) in
@@ -50,8 +52,9 @@ returns-clause-value c = λ ps are.
     ap (map string_bytes) (c.after_first.ensures ∙ ap (drop 1) c.deref.ensures.value)
     ∙ sym (drop-map string_bytes 1 c.self.inside.names.items) ∙ ap (drop 1) (c.self.invariant ps inside) in
     let one : length ps ≡ 1 = AllZip-long IsLabelledPattern c.args.self.now ps are ∙ c.requires.one in
+    let found : c.get.result ≡ Some c.in_ok-name.name = first_of (search rules, grind (arith, common_steps)) in
     let here : slice_get names c.args.column ≡ Some name =
-    first_of (search rules, grind (arith, common_steps, slice_get-map)) in
+    rw found at (get-named c.after_first.result.now c.args.column c.get.result c.get.ensures.lookup) in
     let field : Option (List ℕ) = option_map (λ text. text.now) c.in_ok-field.field in
     let some : c.field_by_one.result ≡ Some c.in_ok-field.field =
     first_of (search rules, grind (arith, common_steps)) in
