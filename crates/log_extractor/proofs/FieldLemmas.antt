@@ -1,34 +1,21 @@
 -- From the laws on searches of texts to the fields of a line, and the groups that are named.
 use Rattle.std.specs.declared.alloc.Global.{Global}
-use Rattle.nfa_paths.proofs.Common.{String, ◌≡◌, ◌∙◌, ℕ, ◌+◌, ◌≤◌, ◌<◌, List, [], ◌∷◌, map, length, drop, refl, ap, arith, eq-eqb, Option, None, Some, option_map, option_or, groups_at, slot_count, Search, whole, No, Captured, group_span, le-ltb, ◌++◌, sym, IsSomeAnd, chars, string_bytes, slice_get, AllZip, common_steps}
+use Rattle.nfa_paths.proofs.Common.{String, ◌≡◌, ◌∙◌, ℕ, ◌+◌, ◌≤◌, List, [], ◌∷◌, map, length, drop, refl, ap, arith, Option, None, Some, option_map, option_or, groups_at, slot_count, Captured, group_span, le-ltb, ◌++◌, sym, IsSomeAnd, chars, string_bytes, slice_get, AllZip, common_steps, ◌<◌, All, true, false, is_some, IsAnswer, IsFindAnswer, LeftmostFirst, is_utf8_empty}
 use Rattle.nfa_engines.specs.Automaton.{Automaton}
 use Rattle.nfa_compiler.proofs.CallLemmas.{names-read}
-use Rattle.nfa_compiler.specs.Common.{Match, Re, Trace, accept, attempt, hit, captures_of, written_span, PatternHit, expected, hit_by, hit_of, slots_of, meaning, Hir, Nested, SameCaptures, Parsed, Names, group_count, read, Reads, IsCompiled, IsTreeOf, groups_of, IsNamed, byte_syntax}
-use Rattle.nfa_compiler.specs.Laws.{GroupsAreWritten}
+use Rattle.nfa_compiler.specs.Common.{Match, Re, Trace, accept, attempt, hit, captures_of, written_span, PatternHit, expected, found_of_hit, hit_by, hit_of, slots_of, meaning, Hir, Nested, SameCaptures, Parsed, Names, group_count, read, Reads, IsCompiled, IsTreeOf, groups_of, IsNamed, byte_syntax, IsLeftmostToTheEnd}
+use Rattle.nfa_compiler.specs.Laws.{GroupsAreNamed, GroupsAreWritten, InBytes, TextsAreAnswered, TextsAreMatched}
 use Rattle.log_extractor.specs.declared.pattern.Column.{Column}
-use Rattle.log_extractor.specs.Fields.{LinePattern, NamedGroup, columns_of, cut, fields_of, group_of, match_at_start, named_groups, row, columns_in}
+use Rattle.log_extractor.specs.Fields.{IsLinePattern, LinePattern, NamedGroup, columns_of, cut, fields_of, from_start, group_of, match_at_start, named_groups, row, columns_in}
 
--- the one hit of a search that is bound to its start
-bound-hit-at : (re : Re) (nfa : Automaton) (x : Search) → nfa.anchored ≡ nfa.unanchored → x.anchored ≡ No
-    → x.start ≤ x.end
-    → hit (re ∷ []) nfa x ≡ hit_of 0 x.start (attempt x.haystack re accept x.start)
+-- the hit of a search of a line from its start
+pub start-hit : (p : LinePattern) (nfa : Automaton) (line : List ℕ)
+    → hit (p.tree ∷ []) nfa (from_start line) ≡ option_map (hit_by 0) (match_at_start p line)
 unfolding expected
-bound-hit-at re nfa x bound mode inside =
-    rw (le-ltb x.end x.start inside, mode, eq-eqb nfa.anchored nfa.unanchored bound)
-    (same (hit_of 0 x.start (attempt x.haystack re accept x.start)))
+start-hit p nfa line = rw (le-ltb (length line) 0 (omega arith)) (same (attempt line p.tree accept 0))
   where
-    same : (o : Option PatternHit) → option_or (option_or o None) None ≡ o
-    same None = refl
-    same (Some h) = refl
-
--- that of a line
-pub bound-hit : (p : LinePattern) (nfa : Automaton) (line : List ℕ) → nfa.anchored ≡ nfa.unanchored
-    → hit (p.tree ∷ []) nfa (whole line) ≡ option_map (hit_by 0) (match_at_start p line)
-bound-hit p nfa line bound =
-    bound-hit-at p.tree nfa (whole line) bound refl (omega arith) ∙ same (attempt line p.tree accept 0)
-  where
-    same : (o : Option Trace) → hit_of 0 0 o ≡ option_map (hit_by 0)
-        (option_map (λ t. record { start = 0; trace = t }) o)
+    same : (o : Option Trace) → option_or (hit_of 0 0 o) None
+        ≡ option_map (hit_by 0) (option_map (λ t. record { start = 0; trace = t }) o)
     same None = refl
     same (Some t) = refl
 
@@ -42,21 +29,21 @@ between (name ∷ names) n f g same =
     grind (arith, same n, between names (n + 1) f g (λ k low high. same k (omega arith) (omega arith)))
 
 module _ (p : LinePattern) (nfa : Automaton) (line : List ℕ) (captures : Captured)
-    (bound : nfa.anchored ≡ nfa.unanchored) (groups : nfa.groups ≡ drop 1 p.names ∷ [])
+    (groups : nfa.groups ≡ drop 1 p.names ∷ [])
     (same : captures.groups ≡ nfa.groups)
-    (pattern : captures.pattern ≡ option_map (λ (h : PatternHit). h.pattern) (hit (p.tree ∷ []) nfa (whole line)))
-    (slots : captures.slots ≡ slots_of nfa.groups (slot_count nfa.groups) (hit (p.tree ∷ []) nfa (whole line)))
+    (pattern : captures.pattern ≡ option_map (λ (h : PatternHit). h.pattern) (hit (p.tree ∷ []) nfa (from_start line)))
+    (slots : captures.slots ≡ slots_of nfa.groups (slot_count nfa.groups) (hit (p.tree ∷ []) nfa (from_start line)))
   where
     -- what the captures give for the columns, if a pattern was captured, is the row
     pub row-is : GroupsAreWritten hit
         → option_map (λ (k : ℕ). map (λ (group : NamedGroup). cut line (group_span captures group.number))
         (columns_of p)) captures.pattern ≡ row p line
-    row-is law = of (match_at_start p line) (bound-hit p nfa line bound)
+    row-is law = of (match_at_start p line) (start-hit p nfa line)
       where
         cuts : List (Option (List ℕ))
         cuts = map (λ (group : NamedGroup). cut line (group_span captures group.number)) (columns_of p)
 
-        of : (o : Option Match) → hit (p.tree ∷ []) nfa (whole line) ≡ option_map (hit_by 0) o
+        of : (o : Option Match) → hit (p.tree ∷ []) nfa (from_start line) ≡ option_map (hit_by 0) o
             → option_map (λ (k : ℕ). cuts) captures.pattern ≡ option_map (fields_of p line) o
         of None h = ap (option_map (λ (k : ℕ). cuts)) (pattern ∙ ap (option_map (λ (one : PatternHit). one.pattern)) h)
         of (Some m) h =
@@ -71,8 +58,49 @@ module _ (p : LinePattern) (nfa : Automaton) (line : List ℕ) (captures : Captu
             ∙ ap Some (between (drop 1 p.names) 1 (λ k. cut line (group_span captures k))
             (λ k. cut line (written_span k m))
             (λ k low high. ap (cut line) (ap (λ c. group_span c k) all
-            ∙ law (p.tree ∷ []) nfa (whole line) (hit_by 0 m) k counted h low
+            ∙ law (p.tree ∷ []) nfa (from_start line) (hit_by 0 m) k counted h low
             (omega (arith, ap length explicit, high)))))
+
+-- a search of a line by the NFA of the text of this pattern
+module _ (text : List ℕ) (p : LinePattern) (nfa : Automaton) (line : List ℕ)
+    (compiled : IsCompiled byte_syntax (text ∷ []) nfa) (anywhere : is_utf8_empty nfa ≡ false)
+    (bytes : All (λ b. b < 256) line) (is : IsLinePattern text p)
+  where
+    mode : IsLeftmostToTheEnd LeftmostFirst false (from_start line)
+    mode = record { leftmost = refl; latest = refl; whole = refl }
+
+    groups-are : GroupsAreNamed → nfa.groups ≡ drop 1 p.names ∷ []
+    groups-are law = law byte_syntax _ (p.names ∷ []) nfa compiled (is.names, tt)
+
+    -- the columns are those of the pattern
+    pub line-columns : GroupsAreNamed → (columns : List NamedGroup)
+        → columns ≡ named_groups 1 (groups_at nfa.groups 0) → columns ≡ columns_of p
+    line-columns law columns are = are ∙ ap (λ gs. named_groups 1 (groups_at gs 0)) (groups-are law)
+
+    -- what its captures give is the row
+    pub line-row : GroupsAreNamed → TextsAreAnswered InBytes hit → GroupsAreWritten hit → (captures : Captured)
+        → captures.groups ≡ nfa.groups → length captures.slots ≡ slot_count nfa.groups
+        → IsAnswer nfa LeftmostFirst false (from_start line) captures.pattern captures.slots
+        → option_map (λ (k : ℕ). map (λ (group : NamedGroup). cut line (group_span captures group.number))
+        (columns_of p)) captures.pattern ≡ row p line
+    line-row names answers spans captures groups count answer =
+        let hits = answers byte_syntax _ (p.tree ∷ []) nfa _ _ (from_start line) _ _ compiled (is.tree, tt) anywhere
+        mode bytes answer in
+        row-is p nfa line captures (groups-are names) groups hits.0
+        (hits.1 ∙ ap (λ n. slots_of nfa.groups n (hit (p.tree ∷ []) nfa (from_start line))) count) spans
+
+-- a function of the fields of a row, if there is one
+pub some-of-row : {A : Type 0} (f : List (Option (List ℕ)) → A) (pattern : Option ℕ) (fields : List (Option (List ℕ)))
+    (found : Option (List (Option (List ℕ)))) → option_map (λ (k : ℕ). fields) pattern ≡ found → is_some pattern ≡ true
+    → Some (f fields) ≡ option_map f found
+some-of-row f None fields found is some = absurd (cc)
+some-of-row f (Some k) fields found is some = ap (option_map f) is
+
+pub none-of-row : {A : Type 0} (f : List (Option (List ℕ)) → A) (pattern : Option ℕ) (fields : List (Option (List ℕ)))
+    (found : Option (List (Option (List ℕ)))) → option_map (λ (k : ℕ). fields) pattern ≡ found
+    → is_some pattern ≡ false → None ≡ option_map f found
+none-of-row f None fields found is none = ap (option_map f) is
+none-of-row f (Some k) fields found is none = absurd (cc)
 
 -- a function of the numbers of columns
 pub of-groups : {A : Type 0} (f : ℕ → A) (columns : List Column)

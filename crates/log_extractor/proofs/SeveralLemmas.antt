@@ -1,9 +1,12 @@
 -- Several patterns, one after the other.
 use Rattle.std.specs.Global.{Vec}
-use Rattle.nfa_paths.proofs.Common.{String, Bor, bytes_eq, at_drop_more, drop-drop, length-take, AllZip-left, AllZip-long, ◌≡◌, ◌∙◌, ℕ, zero, suc, ◌+◌, ◌<◌, ◌≤◌, Bool, List, [], ◌∷◌, ◌++◌, length, map, take, drop, get_or, refl, ap, arith, Option, None, Some, IsSomeAnd, if◌then◌else◌, is_some, nat_lt, option_map, slice_get, string_bytes, drop_all, drop_more, get_or-map, length-map, take_more, get_or_from_slice_get, slice_get-map, slice_get_read, slice_get_within, common_steps}
+use Rattle.std.specs.Slice.{IsItemAt}
+use Rattle.std.proofs.lemmas.Option.{slice_get_past}
+use Rattle.nfa_paths.proofs.Common.{String, Bor, bytes_eq, at_drop_more, drop-drop, length-take, AllZip-left, AllZip-long, ◌≡◌, ◌∙◌, ℕ, zero, suc, ◌+◌, ◌<◌, ◌≤◌, Bool, List, [], ◌∷◌, ◌++◌, length, map, take, drop, get_or, refl, ap, arith, Option, None, Some, IsSomeAnd, if◌then◌else◌, is_some, nat_lt, option_map, slice_get, string_bytes, drop_all, drop_more, get_or-map, length-map, take_more, get_or_from_slice_get, slice_get-map, slice_get_read, slice_get_within, common_steps, false, option_or, ap₂, le-ltb, sym}
 use Rattle.std.specs.declared.alloc.Global.{Global}
-use Rattle.log_extractor.specs.Fields.{column_names, fields_now, group_of, row}
-use Rattle.log_extractor.specs.Several.{AreLinePatterns, IsLabelledPattern, LabelledPattern, field_at, field_named, is_several, pattern_label, labels_from, row_of_first, row_of_one, labelled_text, with_name, with_names}
+use Rattle.log_extractor.specs.Counts.{value_at}
+use Rattle.log_extractor.specs.Fields.{column_names, columns_of, field_text, fields_now, group_of, row}
+use Rattle.log_extractor.specs.Several.{AreLinePatterns, IsLabelledPattern, LabelledPattern, field_at, field_named, is_several, pattern_label, labels_from, row_by_first, row_of_first, row_of_one, labelled_text, union_names, with_name, with_names}
 use Rattle.log_extractor.specs.declared.command.Given.{Given}
 use Rattle.log_extractor.specs.declared.parsers.LabelledParser.{LabelledParser}
 use Rattle.log_extractor.specs.declared.pattern.Column.{Column}
@@ -84,6 +87,59 @@ field-from columns fields name n column inside at =
     at_drop_more (λ gs. field_named gs (drop n fields) name) groups n (group_of column)
     (omega (arith, length-map columns group_of))
     ∙ rw (get_or-map group_of columns n column (group_of column) inside, ← at, drop-at fields n, drop-drop) refl
+
+-- what a function of columns gives for the one of this number
+pub column-at : (f : Column → Option (List ℕ)) (columns : List Column) (n : ℕ) (column : Column) → n < length columns
+    → column ≡ get_or columns n column → field_at (map f columns) n ≡ f column
+column-at f columns n column inside at =
+    rw (slice_get-map f columns n, slice_get_read columns _ n column refl inside at) refl
+
+-- the name of the column of this number, as a look-up gives it
+pub get-named : (names : List (String Global)) (column : ℕ) (found : Option (Bor (String Global)))
+    → IsItemAt names column found
+    → slice_get (map string_bytes names) column
+    ≡ option_map (λ (name : Bor (String Global)). string_bytes name.now) found
+get-named names column None is =
+    slice_get_past (map string_bytes names) column (omega (arith, length-map names string_bytes, is.3))
+get-named names column (Some name) is =
+    slice_get-map string_bytes names column
+    ∙ ap (option_map string_bytes) (slice_get_read names _ column name.now refl is.3.0 is.1)
+
+-- the row of the line by the only pattern
+pub by-one : (names : List (List ℕ)) (ps : List LabelledPattern) (line : List ℕ) → length ps ≡ 1
+    → names ≡ union_names ps → row_of_first false names ps line ≡ row_by_first ps line
+by-one names ps line one are =
+    ap₂ (λ b ns. row_of_first b ns ps line) (sym (le-ltb 1 (length ps) (omega (arith, one)))) are
+
+-- the field of a name in it
+module _ (names : List (List ℕ)) (column : ℕ) where
+  pub value-named : (name : List ℕ) (ps : List LabelledPattern) (line : List ℕ) → length ps ≡ 1
+      → slice_get names column ≡ Some name
+      → value_at column (row_of_first false names ps line)
+      ≡ option_map (λ fields. field_text (field_at fields 0)) (row_of_first false (name ∷ []) ps line)
+  value-named name [] line one at = cc
+  value-named name (p ∷ []) line one at = of (row p.1 line)
+    where
+      of : (o : Option (List (Option (List ℕ))))
+          → value_at column (option_or (option_map (λ fields. map (field_named (columns_of p.1) fields) names) o) None)
+          ≡ option_map (λ fields. field_text (field_at fields 0))
+          (option_or (option_map (λ fields. field_named (columns_of p.1) fields name ∷ []) o) None)
+      of None = refl
+      of (Some fields) = rw (slice_get-map (field_named (columns_of p.1) fields) names column, at) refl
+  value-named name (p ∷ q ∷ ps) line one at = absurd (omega (arith, one))
+
+  -- no column has this number
+  pub value-none : (ps : List LabelledPattern) (line : List ℕ) → length ps ≡ 1 → slice_get names column ≡ None
+      → None ≡ value_at column (row_of_first false names ps line)
+  value-none [] line one at = refl
+  value-none (p ∷ []) line one at = of (row p.1 line)
+    where
+      of : (o : Option (List (Option (List ℕ))))
+          → None ≡ value_at column
+          (option_or (option_map (λ fields. map (field_named (columns_of p.1) fields) names) o) None)
+      of None = refl
+      of (Some fields) = rw (slice_get-map (field_named (columns_of p.1) fields) names column, at) refl
+  value-none (p ∷ q ∷ ps) line one at = absurd (omega (arith, one))
 
 -- Labels.
 

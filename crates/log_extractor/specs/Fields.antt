@@ -1,6 +1,8 @@
 -- The columns of a pattern and the fields of a line, in the words of the reference matcher.
 use Rattle.std.specs.Prelude.{◌≡◌, ℕ, ◌+◌, List, [], ◌∷◌, drop, map, Option, None, Some, option_map, slice_range, string_bytes, unwrap_or, ⊤}
 use Rattle.nfa_compiler.specs.Common.{Bor, Span, Match, Re, accept, attempt, IsMeant, IsNamed, written_span, IsOfOneText, NamesText, byte_syntax}
+use Rattle.regex_search_core.specs.Search.{Search, whole}
+use Rattle.regex_search_core.specs.declared.search.Anchored.TheVariants.{Yes}
 use Rattle.log_extractor.specs.declared.pattern.Column.{Column}
 use Rattle.log_extractor.specs.declared.pattern.PatternError.{PatternError}
 use Rattle.log_extractor.specs.declared.pattern.PatternError.TheVariants.{Memory, Compile, NoColumns}
@@ -14,6 +16,10 @@ pub record LinePattern : Type 0 where
 pub record IsLinePattern (text : List ℕ) (p : LinePattern) : Type 0 where
   pub tree : IsMeant byte_syntax text p.tree
   pub names : IsNamed byte_syntax text p.names
+
+-- the search of a line from its start
+abbrev pub from_start : List ℕ → Search
+from_start line = record (whole line) { anchored = Yes }
 
 -- a column: a group that has a name
 pub record NamedGroup : Type 0 where

@@ -5,8 +5,7 @@ ghost use Rattle.std.specs.Io.KnownBytes.{Appends};
 ghost use Rattle.text_lines.specs.Lines.{content, lines_of};
 ghost use Rattle.std.specs.BTreeMap.{IsOrdered};
 ghost use Rattle.log_extractor.specs.Counts.{IsCountList, IsFound, IsTally, count_head, tally_line, counted};
-ghost use Rattle.log_extractor.specs.Counts.{entry_counted, key_cmp, value_at, value_in};
-ghost use Rattle.log_extractor.specs.Fields.{fields_now};
+ghost use Rattle.log_extractor.specs.Counts.{entry_counted, key_cmp, value_in};
 ghost use Rattle.log_extractor.specs.Several.{AreLinePatterns, LabelledPattern};
 ghost use Rattle.log_extractor.specs.Taken.{TakesNext};
 
@@ -148,32 +147,13 @@ fn count_one(
         → IsTally (values ++ value_in rows.old.selection ps column line.now) counts.new) }
     ensures kept { rows.new ≡ rows.old }
 {
-    let Ok(row) = rows.row_of(alloc, content(line)) else {
+    let Ok(value) = rows.value_of(alloc, content(line), column) else {
         return Err(Failure::Line(number));
     };
-    let Some(value) = value_at(&row, column) else {
+    let Some(value) = value else {
         return Ok(());
     };
     add(alloc, counts, value, number)
-}
-
-/// Returns the text of the field of this number, if there are fields.
-fn value_at<'l>(row: &Option<Vec<Option<&'l [u8]>>>, column: usize) -> Option<&'l [u8]>
-    ensures { option_map (λ value. value.now) result
-        ≡ value_at column (option_map (λ fields. fields_now fields.items) row.now) }
-{
-    let Some(fields) = row else {
-        return None;
-    };
-    field_at(fields, column)
-}
-
-/// Returns the text of the field of this number, which is empty if its group took no part.
-fn field_at<'l>(fields: &[Option<&'l [u8]>], column: usize) -> Option<&'l [u8]>
-    ensures { option_map (λ value. value.now) result ≡ value_at column (Some (fields_now fields.now)) }
-{
-    let field = *fields.get(column)?;
-    Some(field.unwrap_or(b""))
 }
 
 /// Counts the value once more. It is of the line of this number. Only a value that was not counted before is copied.

@@ -1,14 +1,19 @@
 //! The fields of a line.
-ghost use Rattle.std.specs.Prelude.{◌≡◌, IfOk, IfSome, map, option_map};
+ghost use Rattle.std.specs.Prelude.{◌≡◌, IfOk, IfSome, None, false, length, map, option_map, string_bytes};
 ghost use Rattle.regex_search_core.specs.Search.{whole};
 ghost use Rattle.regex_search_core.specs.Slots.{group_span};
+ghost use Rattle.regex_search_core.specs.declared.search.MatchKind.TheVariants.{LeftmostFirst};
+ghost use Rattle.nfa_paths.specs.Paths.{IsAnswer};
 ghost use Rattle.nfa_engines.specs.Lists.{IsSpanInside, SpansInside};
-ghost use Rattle.log_extractor.specs.Fields.{cut, fields_now};
+ghost use Rattle.nfa_meta.specs.RegexState.{KeepsRegex};
+ghost use Rattle.log_extractor.specs.Fields.{cut, fields_now, from_start, group_of};
+ghost use Rattle.log_extractor.specs.Several.{field_named};
 
+use crate::names::is_name;
 use crate::pattern::{Column, PatternError, columns, compile};
 use nfa_compiler::laws;
 use nfa_meta::Regex;
-use regex_search_core::{Captures, Input, Span};
+use regex_search_core::{Anchored, Captures, Input, Span};
 use std::alloc::{AllocError, Global};
 use std::marker::Model;
 
@@ -42,7 +47,9 @@ impl<'p> Model for Parser<'p> {
 impl<'p> Parser<'p> {
     ghost use Rattle.std.specs.Prelude.{◌≢◌, [], IfErr, OnOk};
     ghost use Rattle.log_extractor.specs.Fields.{IsPatternMistake, IsLinePattern, LinePattern, columns_of, group_of};
+    ghost use Rattle.std.specs.Prelude.{string_bytes};
     ghost use Rattle.log_extractor.specs.Fields.{row};
+    ghost use Rattle.log_extractor.specs.Several.{field_named};
 
     /// Makes a parser of lines of this pattern. Its columns are the named groups, in the order of their numbers.
     ///
@@ -91,11 +98,59 @@ impl<'p> Parser<'p> {
     {
         laws::searches_find_texts();
         laws::groups_are_those_of_texts();
-        self.regex
-            .search_captures(&Input::new(line), &mut self.captures);
+        search_line(&mut self.regex, line, &mut self.captures);
         let fields = cut_fields(self.alloc, line, &self.captures, &self.columns)?;
         Ok(fields)
     }
+
+    /// Returns the field of the line in the first column of this name: it is `None` if the match wrote nothing for the
+    /// group, or if no column has the name. Returns `None` if the pattern does not match the line from its start.
+    pub fn parse_field<'l>(&mut self, line: &'l [u8], name: &String) -> Option<Option<&'l [u8]>>
+        ensures field { (p : LinePattern) → IsLinePattern self.old p
+            → option_map (option_map (λ text. text.now)) result
+            ≡ option_map (λ fields. field_named (columns_of p) fields (string_bytes name.now)) (row p line.now) }
+        ensures kept { self.new ≡ self.old }
+    {
+        laws::searches_find_texts();
+        laws::groups_are_those_of_texts();
+        search_line(&mut self.regex, line, &mut self.captures);
+        if !self.captures.is_match() {
+            return None;
+        }
+        Some(cut_named(line, &self.captures, &self.columns, name))
+    }
+}
+
+/// Searches the line from its start.
+fn search_line(regex: &mut Regex, line: &[u8], captures: &mut Captures)
+    requires { regex.old.choice.match_kind ≡ None }
+    ensures answer { IsAnswer regex.old.choice.nfa LeftmostFirst false (from_start line.now) captures.new.pattern
+        captures.new.slots }
+    ensures spans { SpansInside (whole line.now) captures.new }
+    ensures groups { captures.new.groups ≡ captures.old.groups }
+    ensures count { length captures.new.slots ≡ length captures.old.slots }
+    ensures keeps { KeepsRegex regex.old regex.new }
+{
+    regex.search_captures(&Input::new(line).anchored(Anchored::Yes), captures);
+}
+
+/// Returns what the captures give for the first column of this name, or `None` if no column has it.
+fn cut_named<'l>(
+    line: &'l [u8],
+    captures: &Captures,
+    columns: &[Column],
+    name: &String,
+) -> Option<&'l [u8]>
+    requires { SpansInside (whole line.now) captures.now }
+    ensures { option_map (λ text. text.now) result ≡ field_named (map group_of columns.now)
+        (map (λ column. cut line.now (group_span captures.now column.group)) columns.now) (string_bytes name.now) }
+{
+    for column in columns {
+        if is_name(&column.name, name.as_str()) {
+            return cut_field(line, captures, column.group);
+        }
+    }
+    None
 }
 
 /// Returns what the captures give for each column, or `None` if they are those of no match.

@@ -1,5 +1,6 @@
 //! The rows of lines by the first of several patterns that matches.
-ghost use Rattle.std.specs.Prelude.{◌≡◌, ◌++◌, IfOk, List, OnOk, drop, map, option_map, string_bytes};
+ghost use Rattle.std.specs.Prelude.{◌≡◌, ◌++◌, ◌∷◌, [], IfOk, List, OnOk, drop, false, length, map, option_map};
+ghost use Rattle.std.specs.Prelude.{string_bytes};
 ghost use Rattle.log_extractor.specs.Fields.{fields_now, group_of};
 ghost use Rattle.log_extractor.specs.Several.{AreLinePatterns, IsLabelledPattern, LabelledPattern, label_field};
 ghost use Rattle.log_extractor.specs.Several.{row_of_first, row_of_one, labelled_text};
@@ -44,6 +45,8 @@ impl<'p> Model for Parsers<'p> {
 }
 
 impl<'p> Parsers<'p> {
+    ghost use Rattle.std.specs.Prelude.{length, true};
+    ghost use Rattle.log_extractor.specs.Counts.{value_at};
     ghost use Rattle.log_extractor.specs.Several.{shown_names, row_by_first};
 
     /// Joins the parsers. The columns are the named groups of all, each name once, in the order of their first
@@ -91,6 +94,28 @@ impl<'p> Parsers<'p> {
         let names = after_first(&self.names);
         first_row(self.alloc, several, names, &mut self.parsers, line)
     }
+
+    /// Returns whether there is only one pattern.
+    pub fn is_one(&self) -> bool
+        ensures { result ≡ true → length self.now ≡ 1 }
+    {
+        self.parsers.len() == 1
+    }
+
+    /// Returns the text of the field of this number in the row of the line, which is empty if the match wrote nothing
+    /// for its group. Returns `None` if the line has no row, or not as many fields. There has to be one pattern.
+    pub fn parse_value<'l>(&mut self, line: &'l [u8], column: usize) -> Option<&'l [u8]>
+    where
+        'p: 'l,
+        requires one { length self.old ≡ 1 }
+        ensures value { (ps : List LabelledPattern) → AreLinePatterns self.old ps
+            → option_map (λ value. value.now) result ≡ value_at column (row_by_first ps line.now) }
+        ensures kept { self.new ≡ self.old }
+    {
+        let name = after_first(&self.names).get(column)?;
+        let field = field_by_one(&mut self.parsers, line, name)?;
+        Some(field.unwrap_or(b""))
+    }
 }
 
 /// Returns the names after the first one.
@@ -124,6 +149,21 @@ fn first_row<'l, 'p: 'l>(
         }
     }
     Ok(None)
+}
+
+/// Returns the field of the column of this name in the row of the line by the only parser, if it has one.
+fn field_by_one<'l, 'p: 'l>(
+    parsers: &mut [LabelledParser<'p>],
+    line: &'l [u8],
+    name: &String,
+) -> Option<Option<&'l [u8]>>
+    requires one { length parsers.old ≡ 1 }
+    ensures field { (ps : List LabelledPattern) → AreLinePatterns (map labelled_text parsers.old) ps
+        → option_map (λ field. option_map (λ text. text.now) field ∷ []) result
+        ≡ row_of_first false (string_bytes name.now ∷ []) ps line.now }
+    ensures kept { parsers.new ≡ parsers.old }
+{
+    parsers[0].parser.parse_field(line, name)
 }
 
 /// Returns the row of the line by the parser: its label, if there are several parsers, and the fields of the columns

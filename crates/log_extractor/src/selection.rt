@@ -1,5 +1,5 @@
 //! Which rows are taken, and which of their columns are shown.
-ghost use Rattle.std.specs.Prelude.{◌≡◌, IfOk, map, option_map};
+ghost use Rattle.std.specs.Prelude.{◌≡◌, ℕ, IfOk, List, Option, Some, map, option_map, true};
 ghost use Rattle.log_extractor.specs.Fields.{field_text, fields_now};
 ghost use Rattle.log_extractor.specs.Selected.{all_hold, holds, selected};
 ghost use Rattle.log_extractor.specs.Several.{field_at};
@@ -32,6 +32,15 @@ pub struct Selection<'w> {
     pub conditions: Vec<Condition<'w>>,
     /// Without these all columns are shown.
     pub chosen: Option<Chosen>,
+}
+
+impl Selection<'_> {
+    /// Returns whether each row is taken, and all of its columns are shown.
+    pub fn takes_all(&self) -> bool
+        ensures { result ≡ true → (fields : List (Option (List ℕ))) → selected self.now fields ≡ Some fields }
+    {
+        self.conditions.is_empty() && self.chosen.is_none()
+    }
 }
 
 /// Returns what is shown of a row of these fields, if it is taken. The only error is that allocation failed.
