@@ -102,8 +102,8 @@ impl Regex {
         self.match_in_window(input)
     }
 
-    /// Returns the match of the search, if the lazy DFA finds it: at the start of the span if the search is anchored, or
-    /// in a window. Otherwise returns the input that the choice has to search, or `None` in it if nothing matches.
+    /// Returns the match of the search, if the lazy DFA finds it at the start of an anchored search, or in a window.
+    /// Otherwise returns the input that the choice has to search, or `None` in it if nothing matches.
     pub(super) fn match_in_window<'h>(
         &mut self,
         input: Input<'h>,
