@@ -1,10 +1,10 @@
 -- From the laws on searches of texts to the fields of a line, and the groups that are named.
 use Rattle.std.specs.declared.alloc.Global.{Global}
-use Rattle.nfa_paths.proofs.Common.{String, ◌≡◌, ◌∙◌, ℕ, ◌+◌, ◌≤◌, List, [], ◌∷◌, map, length, drop, refl, ap, arith, Option, None, Some, option_map, option_or, groups_at, slot_count, Captured, group_span, le-ltb, ◌++◌, sym, IsSomeAnd, chars, string_bytes, slice_get, AllZip, common_steps, ◌<◌, All, true, false, is_some, IsAnswer, IsFindAnswer, LeftmostFirst, is_utf8_empty}
+use Rattle.nfa_paths.proofs.Common.{String, ◌≡◌, ◌∙◌, ℕ, ◌+◌, ◌≤◌, List, [], ◌∷◌, map, length, drop, refl, ap, arith, Option, None, Some, option_map, option_or, groups_at, slot_count, Captured, group_span, le-ltb, ◌++◌, sym, IsSomeAnd, chars, string_bytes, slice_get, AllZip, common_steps, ◌<◌, All, true, false, is_some, IsAnswer, LeftmostFirst, is_utf8_empty}
 use Rattle.nfa_engines.specs.Automaton.{Automaton}
 use Rattle.nfa_compiler.proofs.CallLemmas.{names-read}
-use Rattle.nfa_compiler.specs.Common.{Match, Re, Trace, accept, attempt, hit, captures_of, written_span, PatternHit, expected, found_of_hit, hit_by, hit_of, slots_of, meaning, Hir, Nested, SameCaptures, Parsed, Names, group_count, read, Reads, IsCompiled, IsTreeOf, groups_of, IsNamed, byte_syntax, IsLeftmostToTheEnd}
-use Rattle.nfa_compiler.specs.Laws.{GroupsAreNamed, GroupsAreWritten, InBytes, TextsAreAnswered, TextsAreMatched}
+use Rattle.nfa_compiler.specs.Common.{Match, Re, Trace, accept, attempt, hit, captures_of, written_span, PatternHit, expected, hit_by, hit_of, slots_of, meaning, Hir, Nested, SameCaptures, Parsed, Names, group_count, read, Reads, IsCompiled, IsTreeOf, groups_of, IsNamed, byte_syntax, IsLeftmostToTheEnd}
+use Rattle.nfa_compiler.specs.Laws.{GroupsAreNamed, GroupsAreWritten, InBytes, TextsAreAnswered}
 use Rattle.log_extractor.specs.declared.pattern.Column.{Column}
 use Rattle.log_extractor.specs.Fields.{IsLinePattern, LinePattern, NamedGroup, columns_of, cut, fields_of, from_start, group_of, match_at_start, named_groups, row, columns_in}
 

@@ -1,10 +1,10 @@
 -- The laws, of these captures, for one column.
-use Rattle.nfa_paths.proofs.Common.{rules, ◌≡◌, ◌∙◌, ℕ, List, [], ◌∷◌, ap, arith, common_steps, false, map, subst, sym, true, is_some, Option, Some, option_map, group_span, string_bytes}
+use Rattle.nfa_paths.proofs.Common.{rules, ◌≡◌, ◌∙◌, ℕ, List, [], ◌∷◌, ap, arith, common_steps, false, map, subst, sym, true, is_some, Option, Some, group_span, string_bytes}
 use Rattle.nfa_compiler.proofs.CallLemmas.{bytes-of}
 use Rattle.nfa_meta.proofs.AnchoredLemmas.{regex-kept}
 use Rattle.log_extractor.specs.Fields.{IsLinePattern, NamedGroup, columns_of, cut, group_of}
 use Rattle.log_extractor.specs.Several.{field_named}
-use Rattle.log_extractor.proofs.FieldLemmas.{found-none, line-columns, line-row, none-of-row, of-groups, some-of-row}
+use Rattle.log_extractor.proofs.FieldLemmas.{line-columns, line-row, none-of-row, of-groups, some-of-row}
 use Rattle.log_extractor.proofs.parser.Parser.parse_field.Goals as goal
 
 pub invariant_of-self : goal.invariant_of-self

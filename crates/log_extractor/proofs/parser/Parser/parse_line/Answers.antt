@@ -1,9 +1,9 @@
 -- The laws, of these captures.
-use Rattle.nfa_paths.proofs.Common.{rules, ◌∙◌, ℕ, List, [], ◌∷◌, ap, arith, map, subst, sym, Option, option_map, group_span}
+use Rattle.nfa_paths.proofs.Common.{◌∙◌, ℕ, List, [], ◌∷◌, ap, arith, map, subst, sym, Option, option_map, group_span}
 use Rattle.nfa_compiler.proofs.CallLemmas.{bytes-of}
 use Rattle.nfa_meta.proofs.AnchoredLemmas.{regex-kept}
 use Rattle.log_extractor.specs.Fields.{IsLinePattern, NamedGroup, cut, group_of}
-use Rattle.log_extractor.proofs.FieldLemmas.{found-none, line-columns, line-row, of-groups}
+use Rattle.log_extractor.proofs.FieldLemmas.{line-columns, line-row, of-groups}
 use Rattle.log_extractor.proofs.parser.Parser.parse_line.Goals as goal
 
 pub invariant_of-self : goal.invariant_of-self
