@@ -1,6 +1,6 @@
 //! What the arguments of the command line ask for.
 use crate::error::OptionsError;
-use crate::flags::all_args;
+use crate::flags::{with_flags, words_argument};
 use crate::given::{push_file_rules, push_folder_rules, push_texts};
 use crate::options::{BinaryFiles, Bounds, Context, Devices, Folders, Options, Report, When};
 use crate::rules::Rule;
@@ -28,7 +28,8 @@ A backslash takes the meaning of the next character. A glob has to match a whole
 as an argument, the argument, or what comes after a slash in it. The last of --include and --exclude that matches
 decides. If none does, the file is searched unless the first one is --include. Hidden folders are searched, too, and
 what .gitignore names, unless --ignore-files is given. It passes over .git, and what git would by the .gitignore files
-in the folders that are searched, from the named one down: not by those above it, and not by a line with [[:alpha:]].
+in the folders that are searched, from the named one down: not by those above it, and not by a line with [[:alpha:]] or
+of more than 4096 bytes.
 
 Status: 0 if a line was selected, 1 if none was, 2 after an error.";
 
@@ -94,15 +95,17 @@ pub enum Command<'w> {
 /// Reads the split arguments, the first of which is the name of the program. Fails if the value of `-m` is not a
 /// number, or if allocation failed.
 pub fn parse<'w>(alloc: Global, words: &'w [&'w str]) -> Result<Command<'w>, OptionsError> {
-    let args = all_args(alloc)?;
-    match without_args(alloc).args(args)?.try_get_matches_from(words) {
+    // What may fail comes first, while there is no command to let go.
+    let others = words_argument(alloc)?;
+    let command = without_options(alloc).arg(others)?;
+    match with_flags(alloc, command)?.try_get_matches_from(words) {
         Ok(matches) => Ok(Command::Search(read_matches(alloc, &matches)?)),
         Err(error) => Ok(Command::Say(error)),
     }
 }
 
-/// Returns the command, without its arguments.
-fn without_args<'w>(alloc: Global) -> clap::Command<'w> {
+/// Returns the command, without its options and arguments.
+fn without_options<'w>(alloc: Global) -> clap::Command<'w> {
     clap::Command::new(alloc, "nfa_grep")
         .about("Prints the lines in which a pattern matches.")
         .version(VERSION)

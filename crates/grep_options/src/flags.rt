@@ -4,10 +4,10 @@ mod entry;
 mod printing;
 mod selecting;
 
-use crate::flags::entry::{Also, Entry, Takes, arg_of, push_each};
+use crate::flags::entry::{Also, Entry, Takes, arg_of, with_each};
 use crate::flags::printing::{COLOURS, LINES, NAMES, REPORTS};
 use crate::flags::selecting::{FILES, KINDS, LIMITS, PATTERNS};
-use clap::Arg;
+use clap::{Arg, Command};
 use std::alloc::{AllocError, Global};
 
 /// So many tables there are.
@@ -23,14 +23,13 @@ const WORDS: Entry = Entry {
     help: "The pattern, unless -e or -f is given, and the files",
 };
 
-/// Returns all options, and the other arguments.
-pub fn all_args<'w>(alloc: Global) -> Result<Vec<Arg<'w>>, AllocError> {
-    let mut args = Vec::new(alloc);
+/// Adds all options.
+pub fn with_flags<'w>(alloc: Global, command: Command<'w>) -> Result<Command<'w>, AllocError> {
+    let mut command = command;
     for number in 0..TABLES {
-        push_each(alloc, table(number), &mut args)?;
+        command = with_each(alloc, command, table(number))?;
     }
-    args.push(words_argument(alloc)?)?;
-    Ok(args)
+    Ok(command)
 }
 
 /// Returns the table of this number, in the order of the help.
@@ -47,8 +46,8 @@ fn table(number: usize) -> &'static [Entry] {
     }
 }
 
-/// The arguments that belong to no option. Without `-e` and `-f` there has to be one.
-fn words_argument<'w>(alloc: Global) -> Result<Arg<'w>, AllocError> {
+/// Returns the arguments that belong to no option. Without `-e` and `-f` there has to be one.
+pub fn words_argument<'w>(alloc: Global) -> Result<Arg<'w>, AllocError> {
     let arg = arg_of(alloc, WORDS)?.required_unless_present("regexp")?;
     arg.required_unless_present("file")
 }

@@ -14,6 +14,10 @@ const FILE: &str = ".gitignore";
 /// The name of what git has in a folder for itself.
 const OWN: &str = ".git";
 
+/// No line says something that has more bytes than the path of a file may have: the time and the stack that a glob takes
+/// grow with it.
+const LONGEST: usize = 4096;
+
 /// The rules of the folders on the way to a path, those of the folder where the search began first.
 #[derive(Drop)]
 pub struct Ignores {
@@ -52,9 +56,9 @@ impl Ignores {
         Ok(())
     }
 
-    /// Adds the rule that this line says. One with a class of characters says nothing here.
+    /// Adds the rule that this line says. One that is too long, or has a class of characters, says nothing here.
     fn push_line(&mut self, alloc: Global, depth: usize, line: &str) -> Result<(), AllocError> {
-        if has_class(alloc, line)? {
+        if line.len() > LONGEST || has_class(alloc, line)? {
             return Ok(());
         }
         if let Some(rule) = rule_of_line(alloc, depth, line)? {

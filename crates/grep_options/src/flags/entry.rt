@@ -1,5 +1,5 @@
 //! An option of a table, and the option that `clap` reads for it.
-use clap::{Arg, ArgAction};
+use clap::{Arg, ArgAction, Command};
 use std::alloc::{AllocError, Global};
 
 /// An option.
@@ -45,16 +45,17 @@ pub enum Takes {
     Words(&'static str),
 }
 
-/// Appends these options.
-pub fn push_each<'w>(
+/// Adds these options.
+pub fn with_each<'w>(
     alloc: Global,
+    command: Command<'w>,
     entries: &[Entry],
-    args: &mut Vec<Arg<'w>>,
-) -> Result<(), AllocError> {
+) -> Result<Command<'w>, AllocError> {
+    let mut command = command;
     for entry in entries {
-        args.push(arg_of(alloc, *entry)?)?;
+        command = command.arg(arg_of(alloc, *entry)?)?;
     }
-    Ok(())
+    Ok(command)
 }
 
 /// Returns the option, as `clap` has it.
