@@ -4,6 +4,13 @@ ghost use Rattle.grep_options.specs.Colours.{change_of, change_of_letters, is_co
 ghost use Rattle.grep_options.specs.Colours.{palette_of, split_at, usual, with_all, with_code, with_flag, with_parts};
 
 use std::alloc::{AllocError, Global};
+use std::rt::Env;
+
+/// The variable of the environment that names colours.
+const VARIABLE: &str = "GREP_COLORS";
+
+/// More bytes than the system passes in one variable.
+const LONGEST: usize = 1 << 17;
 
 /// The colours of what is printed. A colour is a code of terminals, which has digits and semicolons. What has an empty
 /// one is printed as it is.
@@ -48,6 +55,17 @@ pub enum Change {
     Keep,
     /// It has no meaning.
     Nothing,
+}
+
+/// Returns the text that names colours: that of the environment variable, or an empty one if there is none.
+pub fn chosen_text(rt: &HostRuntime) -> Result<Vec<u8>, AllocError> {
+    let mut text = vec![in rt.alloc(); 0u8; LONGEST]?;
+    let len = match rt.var(VARIABLE, &mut text) {
+        Ok(len) => len,
+        Err(_) => 0,
+    };
+    text.truncate(len);
+    Ok(text)
 }
 
 /// Returns the colours that the text names. Its capabilities are between colons. The first one that is malformed, and

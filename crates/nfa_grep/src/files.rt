@@ -3,6 +3,7 @@ use crate::fault::Fault;
 use crate::grep::Grep;
 use crate::input::search_named;
 use grep_options::chosen::{Step, is_passed, step_of};
+use grep_options::colours::{chosen_text, colours_in};
 use grep_options::command::Arguments;
 use grep_options::marked::{is_marked, without_mark};
 use grep_options::options::{Context, Options, Report, Request, When};
@@ -10,6 +11,7 @@ use grep_options::output::is_output;
 use grep_options::patterns::{all_patterns, read_files};
 use grep_options::syntax::need_same;
 use grep_options::walk::{is_folder, push_paths};
+use std::alloc::AllocError;
 use std::env::FillError;
 use std::io::{BufWriter, IsTerminal, Write};
 use std::rt::Env;
@@ -50,9 +52,15 @@ fn search_for(
     arguments: &Arguments<'_>,
     patterns: &[&str],
 ) -> Result<Outcome, Fault> {
+    let chosen = chosen_text(rt)?;
+    let chosen = chosen_colours(rt, arguments.coloured)?;
+    let colours = match &chosen {
+        Some(text) => Some(colours_in(rt.alloc(), text)?),
+        None => None,
+    };
     let options = Options {
         named: arguments.options.named || names_folder(rt, arguments),
-        coloured: is_coloured(rt, arguments.coloured),
+        colours,
         ..arguments.options
     };
     let mut grep = Grep::new(rt.alloc(), patterns, options)?;
@@ -69,6 +77,15 @@ fn search_for(
         search_buffered(rt, &mut grep, arguments)?
     };
     Ok(outcome)
+}
+
+/// Returns the text that names colours, if colours are printed.
+fn chosen_colours(rt: &HostRuntime, when: When) -> Result<Option<Vec<u8>>, AllocError> {
+    if is_coloured(rt, when) {
+        Ok(Some(chosen_text(rt)?))
+    } else {
+        Ok(None)
+    }
 }
 
 /// Returns whether colours are printed. A terminal has colours, unless its type is not known or `dumb`.
@@ -259,7 +276,7 @@ fn search_one<W: Write>(
         report: arguments.report,
         limit: arguments.limit,
         context: Context {
-            coloured: grep.options().coloured,
+            colours: grep.options().colours,
             ..arguments.context
         },
         used: outcome.selected,
