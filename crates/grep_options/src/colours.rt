@@ -4,6 +4,7 @@ ghost use Rattle.grep_options.specs.Colours.{change_of, change_of_letters, is_co
 ghost use Rattle.grep_options.specs.Colours.{palette_of, split_at, usual, with_all, with_code, with_flag, with_parts};
 
 use std::alloc::{AllocError, Global};
+use std::env::FillError;
 use std::rt::Env;
 
 /// The variable of the environment that names colours.
@@ -59,6 +60,10 @@ pub enum Change {
 
 /// Returns the text that names colours: that of the environment variable, or an empty one if there is none.
 pub fn chosen_text(rt: &HostRuntime) -> Result<Vec<u8>, AllocError> {
+    // Without the variable no memory is taken.
+    if let Err(FillError::NotPresent) = rt.var(VARIABLE, &mut [0u8; 1]) {
+        return Ok(Vec::new(rt.alloc()));
+    }
     let mut text = vec![in rt.alloc(); 0u8; LONGEST]?;
     let len = match rt.var(VARIABLE, &mut text) {
         Ok(len) => len,

@@ -3,15 +3,13 @@ use crate::fault::Fault;
 use crate::grep::Grep;
 use crate::input::search_named;
 use grep_options::chosen::{Step, is_passed, step_of};
-use grep_options::colours::{chosen_text, colours_in};
 use grep_options::command::Arguments;
 use grep_options::marked::{is_marked, without_mark};
-use grep_options::options::{Context, Options, Report, Request, When};
+use grep_options::options::{Options, Report, Request, When};
 use grep_options::output::is_output;
 use grep_options::patterns::{all_patterns, read_files};
 use grep_options::syntax::need_same;
 use grep_options::walk::{is_folder, push_paths};
-use std::alloc::AllocError;
 use std::env::FillError;
 use std::io::{BufWriter, IsTerminal, Write};
 use std::rt::Env;
@@ -47,20 +45,13 @@ pub fn run(rt: &HostRuntime, arguments: &Arguments<'_>) -> Result<Outcome, Fault
 }
 
 /// Searches for these patterns.
-fn search_for(
+fn search_for<'a>(
     rt: &HostRuntime,
-    arguments: &Arguments<'_>,
-    patterns: &[&str],
+    arguments: &Arguments<'a>,
+    patterns: &'a [&'a str],
 ) -> Result<Outcome, Fault> {
-    let chosen = chosen_text(rt)?;
-    let chosen = chosen_colours(rt, arguments.coloured)?;
-    let colours = match &chosen {
-        Some(text) => Some(colours_in(rt.alloc(), text)?),
-        None => None,
-    };
     let options = Options {
         named: arguments.options.named || names_folder(rt, arguments),
-        colours,
         ..arguments.options
     };
     let mut grep = Grep::new(rt.alloc(), patterns, options)?;
@@ -79,17 +70,8 @@ fn search_for(
     Ok(outcome)
 }
 
-/// Returns the text that names colours, if colours are printed.
-fn chosen_colours(rt: &HostRuntime, when: When) -> Result<Option<Vec<u8>>, AllocError> {
-    if is_coloured(rt, when) {
-        Ok(Some(chosen_text(rt)?))
-    } else {
-        Ok(None)
-    }
-}
-
 /// Returns whether colours are printed. A terminal has colours, unless its type is not known or `dumb`.
-fn is_coloured(rt: &HostRuntime, when: When) -> bool {
+pub fn is_coloured(rt: &HostRuntime, when: When) -> bool {
     match when {
         When::Never => false,
         When::Always => true,
@@ -275,10 +257,7 @@ fn search_one<W: Write>(
         name: shown_name(arguments, name),
         report: arguments.report,
         limit: arguments.limit,
-        context: Context {
-            colours: grep.options().colours,
-            ..arguments.context
-        },
+        context: arguments.context,
         used: outcome.selected,
     };
     // A search that ends at its first line, or that prints less, does not read what it prints.
