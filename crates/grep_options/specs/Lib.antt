@@ -1,3 +1,4 @@
+pub mod Colours
 pub mod Globs
 pub mod Ignored
 pub mod Reports

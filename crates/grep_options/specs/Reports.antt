@@ -1,5 +1,5 @@
 -- What is printed of an input with a report.
-use Rattle.std.specs.Prelude.{ℕ, Bool, true, false, min}
+use Rattle.std.specs.Prelude.{ℕ, Bool, true, false, None, min}
 pub use Rattle.grep_options.specs.declared.options.Context.{Context}
 pub use Rattle.grep_options.specs.declared.options.Report.{Report}
 use Rattle.grep_options.specs.declared.options.Report.TheVariants.{Lines, Count}
@@ -18,4 +18,4 @@ limit_of _ limit = min limit 1
 -- around which lines others are printed: around none if no lines are printed
 abbrev pub context_of : Report → Context → Context
 context_of Lines context = context
-context_of _ context = record context { before = 0; after = 0; separated = false; coloured = false }
+context_of _ context = record context { before = 0; after = 0; separated = false; colours = None }

@@ -22,6 +22,7 @@ in the file of -f. Text is UTF-8; with -w, a byte that is not UTF-8 belongs to n
 A file that is the output, too, is not searched, and neither is one whose name is not UTF-8: the status is 2 then.
 Of a file that is not text, which has a byte 0 in what is read first, no lines are printed without -a.
 The beginning of a long option will do, if no other one begins with it.
+Colours are those of GREP_COLORS, as in grep. Without it, they are ms=01;31:mc=01;31:sl=:cx=:fn=35:ln=32:bn=32:se=36.
 
 In a glob, ? is any character, * any text, slashes too, and [a-z] one of these characters, or [!a-z] any other one.
 A backslash takes the meaning of the next character. A glob has to match a whole name: in a folder, the name there;
@@ -36,7 +37,7 @@ Status: 0 if a line was selected, 1 if none was, 2 after an error.";
 /// What is searched for, where, and what is printed.
 #[derive(Drop)]
 pub struct Arguments<'w> {
-    pub options: Options,
+    pub options: Options<'w>,
     /// What is printed of each file.
     pub report: Report,
     /// The search of a file ends after this many selected lines.
@@ -204,7 +205,7 @@ fn push_strs<'w>(
     Ok(())
 }
 
-fn options_of(matches: &ArgMatches<'_>, several: bool) -> Options {
+fn options_of<'w>(matches: &ArgMatches<'w>, several: bool) -> Options<'w> {
     let with = matches.get_flag("with-filename");
     let without = matches.get_flag("no-filename");
     Options {
@@ -226,7 +227,7 @@ fn options_of(matches: &ArgMatches<'_>, several: bool) -> Options {
         tabbed: matches.get_flag("initial-tab"),
         // It depends on the input.
         width: 0,
-        coloured: false,
+        colours: None,
     }
 }
 
@@ -299,7 +300,7 @@ fn context_of<'w>(matches: &ArgMatches<'w>) -> Result<Context<'w>, OptionsError>
         before: before.unwrap_or(0) as usize,
         after: after.unwrap_or(0),
         separated: (before.is_some() || after.is_some()) && !matches.get_flag("no-group-separator"),
-        coloured: false,
+        colours: None,
         separator: matches
             .get_str("group-separator")
             .unwrap_or("--")

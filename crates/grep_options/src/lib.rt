@@ -7,6 +7,7 @@
 
 pub mod arguments;
 pub mod chosen;
+pub mod colours;
 pub mod command;
 pub mod error;
 mod flags;

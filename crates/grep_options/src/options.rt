@@ -1,4 +1,5 @@
 //! The options: which lines are selected, and what is printed of them.
+use crate::colours::Colours;
 
 /// What bounds a match.
 #[derive(Clone, Copy)]
@@ -13,7 +14,7 @@ pub enum Bounds {
 
 /// The options that change which lines are selected, and what is printed of a line.
 #[derive(Clone, Copy)]
-pub struct Options {
+pub struct Options<'c> {
     /// The patterns are texts, in which no character has a meaning of its own.
     pub fixed: bool,
     /// Letters match in upper case and in lower case.
@@ -40,8 +41,8 @@ pub struct Options {
     pub tabbed: bool,
     /// Numbers of lines and offsets with fewer digits than this have blanks before them.
     pub width: usize,
-    /// Print matches, and what comes before lines, in colours.
-    pub coloured: bool,
+    /// Print matches, and what comes before lines, in these colours.
+    pub colours: Option<Colours<'c>>,
 }
 
 /// When colours are printed.
@@ -95,8 +96,8 @@ pub struct Context<'s> {
     pub after: u64,
     /// Print the separator, as a line, between groups of lines that are not next to each other in an input.
     pub separated: bool,
-    /// Print it in colour.
-    pub coloured: bool,
+    /// The colours that it is printed in.
+    pub colours: Option<Colours<'s>>,
     pub separator: &'s [u8],
 }
 

@@ -1,7 +1,8 @@
 -- What is printed in colours: texts between two escape sequences of a terminal. Without these it is the text.
-use Rattle.std.specs.Prelude.{◌≡◌, ℕ, ◌-◌, ◌≤◌, All, Bool, false, true, not, ◌||◌, List, [], ◌∷◌, ◌++◌, None, codes, drop, if◌then◌else◌, length, map, replicate, slice_range, flat_map, ◌==◌}
+use Rattle.std.specs.Prelude.{◌≡◌, ℕ, ◌-◌, ◌≤◌, All, Bool, false, true, not, ◌||◌, List, [], ◌∷◌, ◌++◌, IfSome, None, Option, Some, codes, drop, if◌then◌else◌, length, map, replicate, slice_range, flat_map, ◌==◌}
+pub use Rattle.grep_options.specs.declared.colours.Colours.{Colours}
+use Rattle.grep_options.specs.Colours.{is_code}
 use Rattle.nfa_search_base.specs.Common.{Found, found_of, whole, Match, AreDisjoint}
-use Rattle.nfa_meta.specs.Gaps.{last_end}
 use Rattle.nfa_grep.specs.declared.paint.Colour.{Colour}
 use Rattle.nfa_grep.specs.declared.paint.Colour.TheVariants as paint
 
@@ -9,74 +10,106 @@ use Rattle.nfa_grep.specs.declared.paint.Colour.TheVariants as paint
 abbrev pub escape : ℕ
 escape = 27
 
--- the escape sequence that clears the rest of the line
-abbrev pub clear : List ℕ
-clear = escape ∷ codes "[K"
+-- what comes after a change of colour: the escape sequence that clears the rest of the line, unless it is kept
+abbrev pub clear : Colours → List ℕ
+clear colours = if colours.clears then escape ∷ codes "[K" else []
 
--- what begins a text in this colour: bold red, magenta, green or cyan
-abbrev pub start_of : Colour → List ℕ
-start_of paint.Match = escape ∷ codes "[01;31m" ++ clear
-start_of paint.Name = escape ∷ codes "[35m" ++ clear
-start_of paint.Number = escape ∷ codes "[32m" ++ clear
-start_of paint.Separator = escape ∷ codes "[36m" ++ clear
+-- what begins a text in the colour of this code: nothing if it is empty
+abbrev pub start_of : Colours → List ℕ → List ℕ
+start_of colours [] = []
+start_of colours (byte ∷ code) = (escape ∷ codes "[") ++ ((byte ∷ code) ++ (codes "m" ++ clear colours))
 
--- what ends a text in a colour
-abbrev pub end_of_colour : List ℕ
-end_of_colour = escape ∷ codes "[m" ++ clear
+-- what ends a text in the colour of this code: nothing if it is empty
+abbrev pub end_of : Colours → List ℕ → List ℕ
+end_of colours [] = []
+end_of colours (byte ∷ code) = (escape ∷ codes "[m") ++ clear colours
+
+-- the code of what has a colour
+abbrev pub code_of : Colours → Colour → List ℕ
+code_of colours paint.Match = colours.selected_match.now
+code_of colours paint.NearMatch = colours.near_match.now
+code_of colours paint.Line = colours.selected_line.now
+code_of colours paint.NearLine = colours.near_line.now
+code_of colours paint.Name = colours.name.now
+code_of colours paint.Number = colours.number.now
+code_of colours paint.Offset = colours.offset.now
+code_of colours paint.Separator = colours.separator.now
 
 -- the text in this colour, if colours are wanted
-abbrev pub painted : Bool → Colour → List ℕ → List ℕ
-painted coloured colour text = if coloured then (start_of colour ++ (text ++ end_of_colour)) else text
+abbrev pub painted : Option Colours → Colour → List ℕ → List ℕ
+painted None colour text = text
+painted (Some colours) colour text =
+    start_of colours (code_of colours colour) ++ (text ++ end_of colours (code_of colours colour))
 
 -- the text, with blanks before it if it has fewer bytes than this
 abbrev pub aligned : ℕ → List ℕ → List ℕ
 aligned width text = replicate (width - length text) 32 ++ text
 
 -- a label, and this byte after it
-abbrev pub label : Bool → Colour → ℕ → List ℕ → List ℕ
-label coloured colour end text = painted coloured colour text ++ painted coloured paint.Separator (end ∷ [])
+abbrev pub label : Option Colours → Colour → ℕ → List ℕ → List ℕ
+label colours colour end text = painted colours colour text ++ painted colours paint.Separator (end ∷ [])
 
--- a part of a line: its text, and whether that is in the colour of matches
+-- a part of a line: its text, and the escape sequences before and after that
 pub record Part : Type 0 where
-  pub coloured : Bool
+  pub before : List ℕ
   pub text : List ℕ
-
--- a part that has no colour
-abbrev pub bare_part : List ℕ → Part
-bare_part text = record { coloured = false; text = text }
+  pub after : List ℕ
 
 -- the text of these parts, with colours
 abbrev pub in_colours : List Part → List ℕ
-in_colours parts = flat_map (λ part. painted part.coloured paint.Match part.text) parts
+in_colours parts = flat_map (λ part. part.before ++ (part.text ++ part.after)) parts
 
--- the text of a match, which has a colour unless it is empty
-abbrev pub part_of : List ℕ → Found → Part
-part_of text m = record { coloured = not (m.start == m.end); text = slice_range text m.start m.end }
+-- the text before a match, in the colour of the line, which that of the match ends
+abbrev pub gap_part : Colours → Colour → List ℕ → Part
+gap_part colours line text = record { before = start_of colours (code_of colours line); text = text; after = [] }
 
--- the text from an offset to the end of this match, which is in colour
-abbrev pub matched_from : List ℕ → ℕ → Found → List ℕ
-matched_from text from m =
-    slice_range text from m.start
-    ++ painted (not (m.start == m.end)) paint.Match (slice_range text m.start m.end)
+-- a text in this colour
+abbrev pub part_in : Colours → Colour → List ℕ → Part
+part_in colours colour text = record {
+  before = start_of colours (code_of colours colour);
+  text = text;
+  after = end_of colours (code_of colours colour);
+}
 
--- the parts of a text from an offset on: these matches, and what is before, between and after them
-abbrev pub parts_from : List ℕ → ℕ → List Found → List Part
-parts_from text from [] = bare_part (drop from text) ∷ []
-parts_from text from (m ∷ ms) =
-    bare_part (slice_range text from m.start) ∷ (part_of text m ∷ parts_from text m.end ms)
+-- the text after the last match, in the colour of the line unless it is empty
+abbrev pub last_part : Colours → Colour → List ℕ → Part
+last_part colours own [] = record { before = []; text = []; after = [] }
+last_part colours own (byte ∷ text) = part_in colours own (byte ∷ text)
 
--- the text with these matches in colour
-abbrev pub painted_text : List ℕ → List Found → List ℕ
-painted_text text ms = in_colours (parts_from text 0 ms)
+-- The parts of a text from an offset on: these matches, and what is before, between and after them. A match that is
+-- empty is no part.
+abbrev pub parts_from : Colours → Colour → Colour → List ℕ → ℕ → List Found → List Part
+parts_from colours line hit text from [] = last_part colours line (drop from text) ∷ []
+parts_from colours line hit text from (m ∷ ms) =
+    if m.start == m.end then parts_from colours line hit text from ms
+    else (gap_part colours line (slice_range text from m.start)
+    ∷ (part_in colours hit (slice_range text m.start m.end) ∷ parts_from colours line hit text m.end ms))
+
+-- the text in the colour of its line, with these matches in theirs
+abbrev pub painted_text : Colours → Colour → Colour → List ℕ → List Found → List ℕ
+painted_text colours line hit text ms = in_colours (parts_from colours line hit text 0 ms)
+
+-- the text from an offset to the end of this match, both in their colours: nothing if the match is empty
+abbrev pub matched_from : Colours → Colour → Colour → List ℕ → ℕ → Found → List ℕ
+matched_from colours line hit text from m =
+    if m.start == m.end then [] else in_colours (gap_part colours line (slice_range text from m.start)
+    ∷ part_in colours hit (slice_range text m.start m.end) ∷ [])
+
+-- up to where the text was printed with this match, if it was printed up to an offset before it
+abbrev pub printed_to : ℕ → Found → ℕ
+printed_to from m = if m.start == m.end then from else m.end
 
 -- The first i matches were printed, up to the offset: what was printed, and the other parts, are what was printed
--- before, and all parts.
-pub record HasPainted (text : List ℕ) (matches : List Match) (i from : ℕ) (before out : List ℕ) : Type 0 where
-  pub out_is : out ++ in_colours (parts_from text from (map found_of (drop i matches)))
-      ≡ before ++ painted_text text (map found_of matches)
-  pub first : i ≡ 0 → from ≡ 0
+-- before, and all parts. The last one of them that is not empty ends at the offset, so the others start after it.
+pub record HasPainted (colours : Colours) (line hit : Colour) (text : List ℕ) (matches : List Match) (i from : ℕ)
+    (before out : List ℕ) : Type 0 where
+  pub out_is : out ++ in_colours (parts_from colours line hit text from (map found_of (drop i matches)))
+      ≡ before ++ painted_text colours line hit text (map found_of matches)
   pub within : from ≤ length text
-  pub apart : AreDisjoint (whole text) (last_end i from) (map found_of (drop i matches))
+  pub last : Option ℕ
+  pub after_last : IfSome last (λ end. from ≤ end)
+  pub first : last ≡ None → from ≡ 0
+  pub apart : AreDisjoint (whole text) last (map found_of (drop i matches))
 
 -- the text of these parts, without colours
 abbrev pub uncoloured : List Part → List ℕ
@@ -94,12 +127,17 @@ outside false (byte ∷ bytes) =
 abbrev pub HasNoSequence : List ℕ → Type 0
 HasNoSequence bytes = All (λ byte. (byte == escape) ≡ false) bytes
 
+-- no byte ends an escape sequence: each is a digit or a semicolon
+abbrev pub AreCodes : Colours → Type 0
+AreCodes colours = (colour : Colour) → is_code (code_of colours colour) ≡ true
+
 -- the parts of a text, which are its matches and what is around them, are the text
 abbrev pub PartsAreTheText : Type 0
-PartsAreTheText = (text : List ℕ) (ms : List Found) → AreDisjoint (whole text) None ms
-    → uncoloured (parts_from text 0 ms) ≡ text
+PartsAreTheText = (colours : Colours) (line hit : Colour) (text : List ℕ) (ms : List Found)
+    → AreDisjoint (whole text) None ms → uncoloured (parts_from colours line hit text 0 ms) ≡ text
 
 -- a text without escape sequences is what is printed of it in colours, the escape sequences left out
 abbrev pub ColoursCanBeLeftOut : Type 0
-ColoursCanBeLeftOut = (text : List ℕ) (ms : List Found) → AreDisjoint (whole text) None ms → HasNoSequence text
-    → outside false (painted_text text ms) ≡ text
+ColoursCanBeLeftOut = (colours : Colours) (line hit : Colour) (text : List ℕ) (ms : List Found) → AreCodes colours
+    → AreDisjoint (whole text) None ms → HasNoSequence text
+    → outside false (painted_text colours line hit text ms) ≡ text

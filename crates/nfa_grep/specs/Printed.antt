@@ -9,10 +9,11 @@ pub use Rattle.grep_options.specs.Reports.{context_of, limit_of, shows}
 pub use Rattle.grep_options.specs.declared.options.Context.{Context}
 pub use Rattle.grep_options.specs.declared.options.Report.{Report}
 use Rattle.grep_options.specs.declared.options.Report.TheVariants.{Lines, Count, With, Without, Nothing}
+use Rattle.nfa_search_base.specs.Common.{Found}
 use Rattle.nfa_grep.specs.Meant.{ArePatterns, Options, Re, all_found, is_found, span_of, which_found}
-use Rattle.nfa_grep.specs.Painted.{aligned, label, painted, painted_text}
+use Rattle.nfa_grep.specs.Painted.{Colours, aligned, code_of, label, painted, painted_text}
 use Rattle.nfa_grep.specs.declared.paint.Colour.{Colour}
-use Rattle.nfa_grep.specs.declared.paint.Colour.TheVariants.{Match, Name, Number, Separator}
+use Rattle.nfa_grep.specs.declared.paint.Colour.TheVariants.{Line, Match, Name, NearLine, NearMatch, Number, Offset, Separator}
 
 -- the byte after each label of a line that is selected
 abbrev pub colon : ℕ
@@ -27,17 +28,17 @@ abbrev pub mark_end : Bool → ℕ
 mark_end selected = if selected then colon else 45
 
 -- a label and this byte, if it is wanted
-abbrev pub label_if : Bool → Bool → Colour → ℕ → List ℕ → List ℕ
-label_if wanted coloured colour end text = if wanted then label coloured colour end text else []
+abbrev pub label_if : Bool → Option Colours → Colour → ℕ → List ℕ → List ℕ
+label_if wanted colours colour end text = if wanted then label colours colour end text else []
 
 -- what is after the name of an input: a byte 0 if that is wanted, and else this byte
 abbrev pub name_end : Options → ℕ → List ℕ
-name_end options end = if options.zero_names then 0 ∷ [] else painted options.coloured Separator (end ∷ [])
+name_end options end = if options.zero_names then 0 ∷ [] else painted options.colours Separator (end ∷ [])
 
 -- the name of an input, if it is wanted
 abbrev pub name_label : Options → ℕ → List ℕ → List ℕ
 name_label options end name =
-    if options.named then (painted options.coloured Name name ++ name_end options end) else []
+    if options.named then (painted options.colours Name name ++ name_end options end) else []
 
 -- the numbers, with commas between them
 abbrev pub number_list : List ℕ → List ℕ
@@ -64,27 +65,41 @@ abbrev pub width_of : Bool → Option ℕ → ℕ
 width_of numbers (Some size) = length (decimal (if numbers then size + 1 else size))
 width_of numbers None = 19
 
+-- the number of a line and the offset, each as a label, if they are wanted
+abbrev pub numbers_of : Options → ℕ → ℕ → ℕ → List ℕ
+numbers_of options end number offset =
+    label_if options.numbers options.colours Number end (aligned options.width (decimal number))
+    ++ label_if options.offsets options.colours Offset end (aligned options.width (decimal offset))
+
 -- What comes before a line or a match: the name of the input, the mark, the number, the offset and a tab, if they are
 -- wanted. `some` says that there is some text after them.
 unfoldable pub head : Options → ℕ → List ℕ → List ℕ → ℕ → ℕ → Bool → List ℕ
 head options end name mark number offset some =
     name_label options end name
-    ++ (label_if options.which options.coloured Number end mark
-    ++ (label_if options.numbers options.coloured Number end (aligned options.width (decimal number))
-    ++ (label_if options.offsets options.coloured Number end (aligned options.width (decimal offset))
-    ++ tab_if options some)))
+    ++ (label_if options.which options.colours Number end mark
+    ++ (numbers_of options end number offset ++ tab_if options some))
 
 -- whether the line has a byte before its end
 abbrev pub has_text : Options → List ℕ → Bool
 has_text options [] = false
 has_text options (first ∷ rest) = not (first == options.end)
 
+-- the colour of the matches in a line with this byte after its labels
+abbrev pub match_colour : ℕ → Colour
+match_colour end = if end == colon then Match else NearMatch
+
+-- the colour of the rest of a line with this byte after its labels
+abbrev pub line_colour : Options → Colours → ℕ → Colour
+line_colour options colours end =
+    if options.inverted && colours.reversed then (if end == colon then NearLine else Line)
+    else (if end == colon then Line else NearLine)
+
 -- what is printed of a match that starts and ends there: nothing of an empty one
 abbrev pub piece : Options → ℕ → List ℕ → List ℕ → ℕ → ℕ → List ℕ → ℕ × ℕ → List ℕ
 piece options end name mark number offset line span =
     if span.0 == span.1 then []
     else (head options end name mark number (offset + span.0) true
-    ++ (painted options.coloured Match (slice_range line span.0 span.1) ++ options.end ∷ []))
+    ++ (painted options.colours (match_colour end) (slice_range line span.0 span.1) ++ options.end ∷ []))
 
 -- whether the line is selected
 abbrev pub is_selected : Options → List Re → List ℕ → Bool
@@ -106,22 +121,34 @@ shown_matches options end res name number offset line =
     flat_map (piece options end name (mark_of options res line) number offset line)
     (map span_of (all_found res (text_of options line)))
 
--- Whether the matches of a whole line are in colour: those of lines that are selected, and if these are the lines
--- without a match, those of the others.
-abbrev pub has_colours : Options → ℕ → Bool
-has_colours options end = options.coloured && (if options.inverted then not (end == colon) else (end == colon))
+-- Whether the matches of a whole line are in a colour of their own: those of lines that are selected, and if these are
+-- the lines without a match, those of the others.
+abbrev pub has_colours : Options → Colours → ℕ → Bool
+has_colours options colours end =
+    not (length (code_of colours (match_colour end)) == 0)
+    && (if options.inverted then not (end == colon) else (end == colon))
 
--- the line, with its matches in colour
-abbrev pub painted_line : Options → List Re → List ℕ → List ℕ
-painted_line options res line =
-    painted_text (text_of options line) (all_found res (text_of options line))
+-- the matches of a whole line that are in a colour of their own
+abbrev pub coloured_found : Options → Colours → ℕ → List Re → List ℕ → List Found
+coloured_found options colours end res text = if has_colours options colours end then all_found res text else []
+
+-- a whole line in these colours: its text, and its end, which has none
+unfoldable pub painted_line : Options → Colours → ℕ → List Re → List ℕ → List ℕ
+painted_line options colours end res line =
+    painted_text colours (line_colour options colours end) (match_colour end) (text_of options line)
+    (coloured_found options colours end res (text_of options line))
     ++ with_end options.end (drop (length (text_of options line)) line)
 
--- what is printed of a whole line, with its matches in colour if they are
+-- a whole line, in colours if there are any
+abbrev pub line_in : Option Colours → Options → ℕ → List Re → List ℕ → List ℕ
+line_in None options end res line = with_end options.end line
+line_in (Some colours) options end res line = painted_line options colours end res line
+
+-- what is printed of a whole line
 abbrev pub shown_whole : Options → ℕ → List Re → List ℕ → ℕ → ℕ → List ℕ → List ℕ
 shown_whole options end res name number offset line =
     head options end name (mark_of options res line) number offset (has_text options line)
-    ++ (if has_colours options end then painted_line options res line else with_end options.end line)
+    ++ line_in options.colours options end res line
 
 -- What is printed of a line that is printed, which may be selected. With `only`, matches are printed of lines that are
 -- selected, and if these are the lines without a match, of the others.
@@ -193,7 +220,7 @@ read_in options res context limit text = read options res context limit 0 (recor
 
 -- what is between groups of lines, as a line
 abbrev pub separator : Context → List ℕ
-separator context = painted context.coloured Separator context.separator.now ++ line_feed ∷ []
+separator context = painted context.colours Separator context.separator.now ++ line_feed ∷ []
 
 -- whether some line is selected
 abbrev pub has_selected : List Item → Bool
@@ -234,7 +261,7 @@ printed_if report options res name context used limit text =
 -- the name of the input, as a line, or with a byte 0 after it
 abbrev pub name_line : Options → List ℕ → List ℕ
 name_line options name =
-    painted options.coloured Name name ++ (if options.zero_names then 0 else line_feed) ∷ []
+    painted options.colours Name name ++ (if options.zero_names then 0 else line_feed) ∷ []
 
 -- the number of the selected lines, as a line
 abbrev pub count_line : Options → List ℕ → ℕ → List ℕ

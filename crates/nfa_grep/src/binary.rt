@@ -59,12 +59,12 @@ fn is_any_text(binary: BinaryFiles, report: Report, end: u8) -> bool {
 /// Prints what is printed of an input without a selected line.
 fn print_none<W: Write>(
     alloc: Global,
-    options: Options,
+    options: Options<'_>,
     request: Request<'_>,
     out: &mut W,
 ) -> Result<(), Failure>
     ensures { OnOk result (Appends (W.contents out.old) (W.contents out.new)
-        (summary request.entry.report options request.entry.name.now 0)) }
+        (summary request.entry.report options.entry request.entry.name.now 0)) }
 {
     let mut last = Vec::new(alloc);
     let name = request.name.as_bytes();

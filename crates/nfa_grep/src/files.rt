@@ -7,7 +7,7 @@ use crate::walk::Walk;
 use grep_options::chosen::{Step, is_passed, step_of};
 use grep_options::command::Arguments;
 use grep_options::marked::{is_marked, without_mark};
-use grep_options::options::{Context, Options, Report, Request, When};
+use grep_options::options::{Options, Report, Request, When};
 use grep_options::output::is_output;
 use grep_options::patterns::{all_patterns, read_files};
 use grep_options::syntax::need_same;
@@ -52,14 +52,13 @@ pub fn run(rt: &HostRuntime, arguments: &Arguments<'_>) -> Result<Outcome, Fault
 }
 
 /// Searches for these patterns.
-fn search_for(
+fn search_for<'a>(
     rt: &HostRuntime,
-    arguments: &Arguments<'_>,
-    patterns: &[&str],
+    arguments: &Arguments<'a>,
+    patterns: &'a [&'a str],
 ) -> Result<Outcome, Fault> {
     let options = Options {
         named: arguments.options.named || names_folder(rt, arguments),
-        coloured: is_coloured(rt, arguments.coloured),
         ..arguments.options
     };
     let mut grep = Grep::new(rt.alloc(), patterns, options)?;
@@ -82,7 +81,7 @@ fn search_for(
 }
 
 /// Returns whether colours are printed. A terminal has colours, unless its type is not known or `dumb`.
-fn is_coloured(rt: &HostRuntime, when: When) -> bool {
+pub fn is_coloured(rt: &HostRuntime, when: When) -> bool {
     match when {
         When::Never => false,
         When::Always => true,
@@ -273,10 +272,7 @@ fn search_one<W: Write>(
         name: shown_name(arguments, name),
         report: arguments.report,
         limit: arguments.limit,
-        context: Context {
-            coloured: grep.options().coloured,
-            ..arguments.context
-        },
+        context: arguments.context,
         used: outcome.selected,
         progress: outcome.progress.is_shown(),
     };

@@ -28,7 +28,7 @@ use text_lines::line::record_content;
 pub struct Grep<'p> {
     alloc: Global,
     patterns: &'p [&'p str],
-    options: Options,
+    options: Options<'p>,
     regex: Regex,
     which: Option<Which>,
     needed: Vec<u8>,
@@ -66,11 +66,15 @@ impl<'p> Model for Grep<'p> {
 
 impl<'p> Grep<'p> {
     /// Compiles the patterns. Fails if a text is not a pattern, if the patterns are too large, or if allocation failed.
-    pub fn new(alloc: Global, patterns: &'p [&'p str], options: Options) -> Result<Grep<'p>, Fault>
+    pub fn new(
+        alloc: Global,
+        patterns: &'p [&'p str],
+        options: Options<'p>,
+    ) -> Result<Grep<'p>, Fault>
         ensures patterns { IfOk result (λ grep. grep.patterns ≡ map (λ text. text.now) patterns.now) }
-        ensures options { IfOk result (λ grep. grep.options ≡ options) }
-        ensures refused { IfErr result (λ fault. IsTextRefusal options (map (λ text. text.now) patterns.now) fault
-            ⊎ IsOfPatterns options (map (λ text. text.now) patterns.now) fault) }
+        ensures options { IfOk result (λ grep. grep.options ≡ options.entry) }
+        ensures refused { IfErr result (λ fault. IsTextRefusal options.entry (map (λ text. text.now) patterns.now) fault
+            ⊎ IsOfPatterns options.entry (map (λ text. text.now) patterns.now) fault) }
     {
         let trees = read_patterns(alloc, options, patterns)?;
         Grep::of_trees(alloc, patterns, options, &trees)
@@ -80,13 +84,13 @@ impl<'p> Grep<'p> {
     fn of_trees(
         alloc: Global,
         patterns: &'p [&'p str],
-        options: Options,
+        options: Options<'p>,
         trees: &[Parsed],
     ) -> Result<Grep<'p>, Fault>
         requires { AllZip (IsReadFrom options) (map (λ text. text.now) patterns.now) trees.now }
         ensures patterns { IfOk result (λ grep. grep.patterns ≡ map (λ text. text.now) patterns.now) }
-        ensures options { IfOk result (λ grep. grep.options ≡ options) }
-        ensures refused { IfErr result (IsOfPatterns options (map (λ text. text.now) patterns.now)) }
+        ensures options { IfOk result (λ grep. grep.options ≡ options.entry) }
+        ensures refused { IfErr result (IsOfPatterns options.entry (map (λ text. text.now) patterns.now)) }
     {
         let nfa = nfa_of(alloc, trees)?;
         let regex = Regex::new_from_nfa(alloc, nfa)?;
@@ -103,7 +107,7 @@ impl<'p> Grep<'p> {
     }
 
     /// Returns the options.
-    pub fn options(&self) -> Options
+    pub fn options(&self) -> Options<'p>
         ensures { result ≡ self.now.options }
     {
         self.options

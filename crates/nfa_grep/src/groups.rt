@@ -214,7 +214,7 @@ fn append_between(
     ensures { OnOk result (out.new.items ≡ out.old.items ++ between context.entry used gap) }
 {
     if used && gap && context.separated {
-        append_painted(context.coloured, Colour::Separator, context.separator, out)?;
+        append_painted(context.colours, Colour::Separator, context.separator, out)?;
         out.push(b'\n')?;
     }
     Ok(())

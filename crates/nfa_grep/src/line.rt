@@ -1,8 +1,8 @@
 //! What comes before a line where it is printed.
 ghost use Rattle.std.specs.Prelude.{◌≡◌, ◌++◌, OnOk, decimal};
-ghost use Rattle.nfa_grep.specs.Painted.{aligned};
+ghost use Rattle.nfa_grep.specs.Painted.{aligned, label};
 ghost use Rattle.nfa_grep.specs.Printed.{count_line, head, label_if, name_end, name_label, name_line, summary};
-ghost use Rattle.nfa_grep.specs.Printed.{tab_if, width_of};
+ghost use Rattle.nfa_grep.specs.Printed.{numbers_of, tab_if, width_of};
 ghost use Rattle.nfa_grep.specs.declared.paint.Colour.TheVariants.{Number};
 
 use crate::paint::{Colour, append_aligned, append_label, append_painted};
@@ -39,30 +39,44 @@ pub fn width_of(numbers: bool, size: Option<u64>) -> usize
     buffer.format(last).len()
 }
 
-/// Appends the number, with blanks before it up to the width that is wanted, and this byte, if it is wanted.
+/// Appends the number, with blanks before it up to the width that is wanted, in this colour, and this byte.
 fn append_number(
-    options: Options,
-    wanted: bool,
+    options: Options<'_>,
+    colour: Colour,
     end: u8,
     number: u64,
     out: &mut Vec<u8>,
 ) -> Result<(), AllocError>
     ensures { OnOk result (out.new.items ≡ out.old.items
-        ++ label_if wanted options.coloured Number end (aligned options.width (decimal number))) }
+        ++ label options.entry.colours colour end (aligned options.entry.width (decimal number))) }
 {
-    if !wanted {
-        return Ok(());
-    }
-    let coloured = options.coloured;
     let mut buffer = Buffer::new();
     let digits = buffer.format(number).as_bytes();
-    append_aligned(coloured, Colour::Number, options.width, digits, out)?;
-    append_painted(coloured, Colour::Separator, &[end], out)
+    append_aligned(options.colours, colour, options.width, digits, out)?;
+    append_painted(options.colours, Colour::Separator, &[end], out)
+}
+
+/// Appends the number of the line and the offset, if they are wanted.
+fn append_numbers(
+    options: Options<'_>,
+    place: Place<'_>,
+    out: &mut Vec<u8>,
+) -> Result<(), AllocError>
+    ensures { OnOk result (out.new.items ≡ out.old.items
+        ++ numbers_of options.entry place.entry.end place.entry.number place.entry.offset) }
+{
+    if options.numbers {
+        append_number(options, Colour::Number, place.end, place.number, out)?;
+    }
+    if options.offsets {
+        append_number(options, Colour::Offset, place.end, place.offset, out)?;
+    }
+    Ok(())
 }
 
 /// Appends a tab, if it is wanted, something is before it, and there is `some` text after it.
-fn append_tab(options: Options, some: bool, out: &mut Vec<u8>) -> Result<(), AllocError>
-    ensures { OnOk result (out.new.items ≡ out.old.items ++ tab_if options some) }
+fn append_tab(options: Options<'_>, some: bool, out: &mut Vec<u8>) -> Result<(), AllocError>
+    ensures { OnOk result (out.new.items ≡ out.old.items ++ tab_if options.entry some) }
 {
     let labelled = options.named || options.which || options.numbers || options.offsets;
     if options.tabbed && some && labelled {
@@ -72,35 +86,45 @@ fn append_tab(options: Options, some: bool, out: &mut Vec<u8>) -> Result<(), All
 }
 
 /// Appends the name and what is after it, if it is wanted.
-fn append_name(options: Options, end: u8, name: &[u8], out: &mut Vec<u8>) -> Result<(), AllocError>
-    ensures { OnOk result (out.new.items ≡ out.old.items ++ name_label options end name.now) }
+fn append_name(
+    options: Options<'_>,
+    end: u8,
+    name: &[u8],
+    out: &mut Vec<u8>,
+) -> Result<(), AllocError>
+    ensures { OnOk result (out.new.items ≡ out.old.items ++ name_label options.entry end name.now) }
 {
     if !options.named {
         return Ok(());
     }
-    let coloured = options.coloured;
-    append_painted(coloured, Colour::Name, name, out)?;
+    let colours = options.colours;
+    append_painted(colours, Colour::Name, name, out)?;
     append_name_end(options, end, out)
 }
 
 /// Appends what is after a name: a byte 0, or this byte.
-fn append_name_end(options: Options, end: u8, out: &mut Vec<u8>) -> Result<(), AllocError>
-    ensures { OnOk result (out.new.items ≡ out.old.items ++ name_end options end) }
+fn append_name_end(options: Options<'_>, end: u8, out: &mut Vec<u8>) -> Result<(), AllocError>
+    ensures { OnOk result (out.new.items ≡ out.old.items ++ name_end options.entry end) }
 {
     if options.zero_names {
         out.push(0)?;
         return Ok(());
     }
-    append_painted(options.coloured, Colour::Separator, &[end], out)
+    append_painted(options.colours, Colour::Separator, &[end], out)
 }
 
 /// Appends the mark and this byte, if it is wanted.
-fn append_mark(options: Options, end: u8, mark: &[u8], out: &mut Vec<u8>) -> Result<(), AllocError>
+fn append_mark(
+    options: Options<'_>,
+    end: u8,
+    mark: &[u8],
+    out: &mut Vec<u8>,
+) -> Result<(), AllocError>
     ensures { OnOk result (out.new.items
-        ≡ out.old.items ++ label_if options.which options.coloured Number end mark.now) }
+        ≡ out.old.items ++ label_if options.entry.which options.entry.colours Number end mark.now) }
 {
     if options.which {
-        append_label(options.coloured, Colour::Number, end, mark, out)?;
+        append_label(options.colours, Colour::Number, end, mark, out)?;
     }
     Ok(())
 }
@@ -109,27 +133,26 @@ fn append_mark(options: Options, end: u8, mark: &[u8], out: &mut Vec<u8>) -> Res
 /// a tab, if they are wanted. There is `some` text after them.
 #[tactic(auto, unfolding(crate::specs::Printed::head))]
 pub fn append_head(
-    options: Options,
+    options: Options<'_>,
     place: Place<'_>,
     mark: &[u8],
     some: bool,
     out: &mut Vec<u8>,
 ) -> Result<(), AllocError>
     ensures { OnOk result (out.new.items ≡ out.old.items
-        ++ head options place.entry.end place.entry.name.now mark.now place.entry.number place.entry.offset some) }
+        ++ head options.entry place.entry.end place.entry.name.now mark.now place.entry.number place.entry.offset some) }
 {
     append_name(options, place.end, place.name, out)?;
     append_mark(options, place.end, mark, out)?;
-    append_number(options, options.numbers, place.end, place.number, out)?;
-    append_number(options, options.offsets, place.end, place.offset, out)?;
+    append_numbers(options, place, out)?;
     append_tab(options, some, out)
 }
 
 /// Appends the name, as a line or with a byte 0 after it.
-fn append_name_line(options: Options, name: &[u8], out: &mut Vec<u8>) -> Result<(), AllocError>
-    ensures { OnOk result (out.new.items ≡ out.old.items ++ name_line options name.now) }
+fn append_name_line(options: Options<'_>, name: &[u8], out: &mut Vec<u8>) -> Result<(), AllocError>
+    ensures { OnOk result (out.new.items ≡ out.old.items ++ name_line options.entry name.now) }
 {
-    append_painted(options.coloured, Colour::Name, name, out)?;
+    append_painted(options.colours, Colour::Name, name, out)?;
     let zero = options.zero_names;
     out.push(if zero { 0 } else { b'\n' })?;
     Ok(())
@@ -137,12 +160,12 @@ fn append_name_line(options: Options, name: &[u8], out: &mut Vec<u8>) -> Result<
 
 /// Appends the number of selected lines, as a line.
 fn append_count(
-    options: Options,
+    options: Options<'_>,
     name: &[u8],
     count: u64,
     out: &mut Vec<u8>,
 ) -> Result<(), AllocError>
-    ensures { OnOk result (out.new.items ≡ out.old.items ++ count_line options name.now count) }
+    ensures { OnOk result (out.new.items ≡ out.old.items ++ count_line options.entry name.now count) }
 {
     let mut buffer = Buffer::new();
     append_name(options, b':', name, out)?;
@@ -153,12 +176,12 @@ fn append_count(
 /// Appends what is printed of an input after its lines, `count` of which are selected.
 pub fn append_summary(
     report: Report,
-    options: Options,
+    options: Options<'_>,
     name: &[u8],
     count: u64,
     out: &mut Vec<u8>,
 ) -> Result<(), AllocError>
-    ensures { OnOk result (out.new.items ≡ out.old.items ++ summary report options name.now count) }
+    ensures { OnOk result (out.new.items ≡ out.old.items ++ summary report options.entry name.now count) }
 {
     match report {
         Report::Count => append_count(options, name, count, out),

@@ -19,8 +19,9 @@ mod walk;
 mod which;
 
 use crate::fault::Fault;
-use crate::files::{Outcome, run};
+use crate::files::{Outcome, is_coloured, run};
 use grep_options::arguments::{arguments, need_text};
+use grep_options::colours::{chosen_text, colours_in};
 use grep_options::command::{Command, parse};
 use grep_options::words::split;
 use std::process::ExitCode;
@@ -55,11 +56,17 @@ fn answer(rt: &HostRuntime) -> Result<ExitCode, Fault> {
 /// Does what the arguments ask for. Of these only the names of files may be no text.
 fn obey(rt: &HostRuntime, words: &[&str]) -> Result<ExitCode, Fault> {
     let split = split(rt.alloc(), words)?;
+    let chosen = chosen_text(rt)?;
     match parse(rt.alloc(), &split)? {
-        Command::Search(arguments) => {
+        Command::Search(mut arguments) => {
             need_text(rt.alloc(), words, &arguments.patterns)?;
             need_text(rt.alloc(), words, &arguments.pattern_files)?;
             need_text(rt.alloc(), words, &arguments.texts)?;
+            if is_coloured(rt, arguments.coloured) {
+                let colours = Some(colours_in(rt.alloc(), &chosen)?);
+                arguments.options.colours = colours;
+                arguments.context.colours = colours;
+            }
             Ok(code_of(run(rt, &arguments)?))
         }
         Command::Say(error) => {

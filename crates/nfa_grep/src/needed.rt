@@ -15,11 +15,11 @@ use std::alloc::{AllocError, Global};
 /// none, if none are found, or if the selected lines are those without a match.
 pub fn needed_bytes(
     alloc: Global,
-    options: Options,
+    options: Options<'_>,
     trees: &[Parsed],
 ) -> Result<Vec<u8>, AllocError>
     ensures { IfOk result (λ needed. (res : List Re) → AllZip SameCaptures (res_of trees.now) res
-        → IsNeeded options res needed.items) }
+        → IsNeeded options.entry res needed.items) }
 {
     laws::hits_have_required_bytes();
     if options.inverted {

@@ -14,9 +14,13 @@ use regex_hir::{Hir, Look};
 use std::alloc::{AllocError, Global};
 
 /// Reads each text as a pattern. Fails if a text is not a pattern, or if allocation failed.
-pub fn read_patterns(alloc: Global, options: Options, texts: &[&str]) -> Result<Vec<Parsed>, Fault>
-    ensures read { IfOk result (λ trees. AllZip (IsReadFrom options) (map (λ text. text.now) texts.now) trees.items) }
-    ensures refused { IfErr result (IsTextRefusal options (map (λ text. text.now) texts.now)) }
+pub fn read_patterns(
+    alloc: Global,
+    options: Options<'_>,
+    texts: &[&str],
+) -> Result<Vec<Parsed>, Fault>
+    ensures read { IfOk result (λ trees. AllZip (IsReadFrom options.entry) (map (λ text. text.now) texts.now) trees.items) }
+    ensures refused { IfErr result (IsTextRefusal options.entry (map (λ text. text.now) texts.now)) }
 {
     let mut trees = Vec::with_capacity(alloc, texts.len())?;
     for text in texts {
@@ -29,8 +33,8 @@ pub fn read_patterns(alloc: Global, options: Options, texts: &[&str]) -> Result<
 }
 
 /// Returns the syntax of the patterns.
-fn syntax_of(options: Options) -> Syntax
-    ensures { result ≡ syntax_of options }
+fn syntax_of(options: Options<'_>) -> Syntax
+    ensures { result ≡ syntax_of options.entry }
 {
     let flags = Flags {
         case_insensitive: options.ignore_case,
@@ -44,8 +48,8 @@ fn syntax_of(options: Options) -> Syntax
 }
 
 /// Reads the text as a pattern. There is none if the text is not a pattern, or if allocation failed.
-fn read_pattern(alloc: Global, options: Options, text: &str) -> Option<Parsed>
-    ensures { IfSome result (IsReadFrom options text.now) }
+fn read_pattern(alloc: Global, options: Options<'_>, text: &str) -> Option<Parsed>
+    ensures { IfSome result (IsReadFrom options.entry text.now) }
 {
     if options.fixed {
         let escaped = regex_syntax::escape(alloc, text).ok()?;
@@ -55,9 +59,9 @@ fn read_pattern(alloc: Global, options: Options, text: &str) -> Option<Parsed>
 }
 
 /// Reads the text by the grammar, and bounds its matches.
-fn read_tree(alloc: Global, options: Options, text: &str) -> Option<Parsed>
-    ensures { IfSome result (λ tree. (re : Re) → IsMeant (syntax_of options) text.now re
-        → SameCaptures (meaning tree.hir) (bounded options.bounds re)) }
+fn read_tree(alloc: Global, options: Options<'_>, text: &str) -> Option<Parsed>
+    ensures { IfSome result (λ tree. (re : Re) → IsMeant (syntax_of options.entry) text.now re
+        → SameCaptures (meaning tree.hir) (bounded options.entry.bounds re)) }
 {
     let Ok(Parsed { hir, names }) = regex_syntax::parse(alloc, text, &syntax_of(options)) else {
         return None;
@@ -105,8 +109,8 @@ fn either(alloc: Global, one: Look, other: Look) -> Result<Hir, AllocError>
 }
 
 /// Returns why some text of these was not read: it is not a pattern, or allocation failed.
-fn refusal(alloc: Global, options: Options, texts: &[&str]) -> Fault
-    ensures { IsTextRefusal options (map (λ text. text.now) texts.now) result }
+fn refusal(alloc: Global, options: Options<'_>, texts: &[&str]) -> Fault
+    ensures { IsTextRefusal options.entry (map (λ text. text.now) texts.now) result }
 {
     if options.fixed {
         return Fault::Memory;

@@ -7,13 +7,15 @@ ghost use Rattle.regex_search_core.specs.Found.{found_of};
 ghost use Rattle.regex_search_core.specs.Search.{whole};
 ghost use Rattle.nfa_engines.specs.Lists.{AreDisjoint, IsInside};
 ghost use Rattle.nfa_grep.specs.Meant.{Mean, all_found, is_found, span_of};
-ghost use Rattle.nfa_grep.specs.Printed.{has_colours, has_text, is_selected, mark_of, painted_line, piece, shown};
-ghost use Rattle.nfa_grep.specs.Printed.{shown_if_selected, shown_matches, shown_whole, text_of};
+ghost use Rattle.nfa_grep.specs.Printed.{coloured_found, has_colours, has_text, is_selected, line_colour, mark_of};
+ghost use Rattle.nfa_grep.specs.Printed.{match_colour, painted_line, piece, shown, shown_if_selected, shown_matches};
+ghost use Rattle.nfa_grep.specs.Printed.{shown_whole, text_of};
 ghost use Rattle.text_lines.specs.Lines.{with_end};
 
 use crate::grep::Grep;
 use crate::line::{Place, append_head};
-use crate::paint::{Colour, append_matched, append_painted};
+use crate::paint::{Colour, LineColours, append_matched, append_painted, code_of};
+use grep_options::colours::Colours;
 use grep_options::options::Options;
 use nfa_compiler::laws;
 use regex_search_core::{Input, Match};
@@ -126,23 +128,54 @@ impl<'p> Grep<'p> {
         let mark = self.mark(line)?;
         let some = has_text(self.options, line);
         append_head(self.options, place, &mark, some, out)?;
-        if has_colours(self.options, place.end) {
-            return self.append_painted(line, out);
+        match self.options.colours {
+            Some(colours) => self.append_in(colours, place.end, line, out),
+            None => append_record(line, self.options.end, out),
         }
-        append_record(line, self.options.end, out)
     }
 
-    /// Appends the line, with its matches in colour.
-    fn append_painted(&mut self, line: &[u8], out: &mut Vec<u8>) -> Result<(), AllocError>
-        ensures shown { OnOk result ((res : List Re) → Mean self.old res
-            → out.new.items ≡ out.old.items ++ painted_line self.old.options res line.now) }
+    /// Appends the line in these colours.
+    fn append_in(
+        &mut self,
+        colours: Colours<'_>,
+        end: u8,
+        line: &[u8],
+        out: &mut Vec<u8>,
+    ) -> Result<(), AllocError>
+        ensures shown { OnOk result ((res : List Re) → Mean self.old res → out.new.items
+            ≡ out.old.items ++ painted_line self.old.options colours.entry end res line.now) }
         ensures kept { self.new ≡ self.old }
     {
-        let end = self.options().end;
+        let options = self.options();
         let text = self.text_of(line);
-        let matches = self.matches(text)?;
-        append_matched(text, &matches, out)?;
-        append_record(&line[text.len()..], end, out)
+        let by = LineColours {
+            colours,
+            line: line_colour(options, colours, end),
+            hit: match_colour(end),
+        };
+        let matches = self.coloured_matches(colours, end, text)?;
+        append_matched(by, text, &matches, out)?;
+        append_record(&line[text.len()..], options.end, out)
+    }
+
+    /// Returns the matches that are in a colour of their own in the text of a line, if this byte is after its labels.
+    fn coloured_matches(
+        &mut self,
+        colours: Colours<'_>,
+        end: u8,
+        text: &[u8],
+    ) -> Result<Vec<Match>, AllocError>
+        ensures all { IfOk result (λ found. (res : List Re) → Mean self.old res
+            → map span_of (map found_of found.items)
+            ≡ map span_of (coloured_found self.old.options colours.entry end res text.now)) }
+        ensures apart { IfOk result (λ found. AreDisjoint (whole text.now) None (map found_of found.items)) }
+        ensures kept { self.new ≡ self.old }
+    {
+        if has_colours(self.options, colours, end) {
+            self.matches(text)
+        } else {
+            Ok(Vec::new(self.alloc))
+        }
     }
 
     /// Returns the numbers of the patterns that match in the line, as they are printed, or nothing if they are not
@@ -164,21 +197,40 @@ impl<'p> Grep<'p> {
     }
 }
 
-/// Returns whether the matches of a whole line are in colour, if this byte is after its labels.
-fn has_colours(options: Options, end: u8) -> bool
-    ensures { result ≡ has_colours options end }
+/// Returns the colour of the matches in a line, if this byte is after its labels.
+fn match_colour(end: u8) -> Colour
+    ensures { result ≡ match_colour end }
 {
-    options.coloured
-        && if options.inverted {
-            end != b':'
-        } else {
-            end == b':'
-        }
+    if end == b':' {
+        Colour::Match
+    } else {
+        Colour::NearMatch
+    }
+}
+
+/// Returns the colour of the rest of a line, if this byte is after its labels.
+fn line_colour(options: Options<'_>, colours: Colours<'_>, end: u8) -> Colour
+    ensures { result ≡ line_colour options.entry colours.entry end }
+{
+    let swapped = options.inverted && colours.reversed;
+    if (end == b':') != swapped {
+        Colour::Line
+    } else {
+        Colour::NearLine
+    }
+}
+
+/// Returns whether the matches of a whole line are in a colour of their own, if this byte is after its labels.
+fn has_colours(options: Options<'_>, colours: Colours<'_>, end: u8) -> bool
+    ensures { result ≡ has_colours options.entry colours.entry end }
+{
+    let selected = end == b':';
+    !code_of(colours, match_colour(end)).is_empty() && selected != options.inverted
 }
 
 /// Returns whether the line has a byte before its end.
-fn has_text(options: Options, line: &[u8]) -> bool
-    ensures { result ≡ has_text options line.now }
+fn has_text(options: Options<'_>, line: &[u8]) -> bool
+    ensures { result ≡ has_text options.entry line.now }
 {
     match line {
         [] => false,
@@ -188,7 +240,7 @@ fn has_text(options: Options, line: &[u8]) -> bool
 
 /// Appends each match that is not empty as a line of its own.
 fn append_pieces(
-    options: Options,
+    options: Options<'_>,
     place: Place<'_>,
     mark: &[u8],
     line: &[u8],
@@ -198,7 +250,7 @@ fn append_pieces(
     requires counted { place.offset + length line.now < 2 ^ 64 }
     requires inside { All (λ m. (found_of m).end ≤ length line.now) matches.now }
     ensures { OnOk result (out.new.items ≡ out.old.items
-        ++ flat_map (piece options place.entry.end place.entry.name.now mark.now place.entry.number place.entry.offset
+        ++ flat_map (piece options.entry place.entry.end place.entry.name.now mark.now place.entry.number place.entry.offset
         line.now) (map span_of (map found_of matches.now))) }
 {
     for found in matches {
@@ -209,7 +261,7 @@ fn append_pieces(
 
 /// Appends the match as a line of its own, if it is not empty.
 fn append_piece(
-    options: Options,
+    options: Options<'_>,
     place: Place<'_>,
     mark: &[u8],
     line: &[u8],
@@ -219,7 +271,7 @@ fn append_piece(
     requires counted { place.offset + length line.now < 2 ^ 64 }
     requires inside { (found_of found).end ≤ length line.now }
     ensures { OnOk result (out.new.items ≡ out.old.items
-        ++ piece options place.entry.end place.entry.name.now mark.now place.entry.number place.entry.offset line.now
+        ++ piece options.entry place.entry.end place.entry.name.now mark.now place.entry.number place.entry.offset line.now
         (span_of (found_of found))) }
 {
     if found.start() == found.end() {
@@ -231,7 +283,7 @@ fn append_piece(
     };
     append_head(options, at, mark, true, out)?;
     let text = &line[found.start()..found.end()];
-    append_painted(options.coloured, Colour::Match, text, out)?;
+    append_painted(options.colours, match_colour(place.end), text, out)?;
     out.push(options.end)?;
     Ok(())
 }

@@ -3,7 +3,7 @@ use Rattle.nfa_grep.proofs.PaintedLemmas.{colours-left-out, parts-are}
 use Rattle.nfa_grep.proofs.paint.colours_are_around.Goals as goal
 
 pub returns-clause-parts : goal.returns-clause-parts
-returns-clause-parts c = λ text ms apart. parts-are text ms apart
+returns-clause-parts c = λ colours line hit text ms apart. parts-are colours line hit text ms apart
 
 pub returns-clause-bytes : goal.returns-clause-bytes
-returns-clause-bytes c = λ text ms apart none. colours-left-out text none ms apart
+returns-clause-bytes c = λ colours line hit text ms are apart none. colours-left-out colours line hit are text none ms apart

@@ -1,5 +1,5 @@
 -- What is printed of a line with `only` are its matches.
-use Rattle.nfa_paths.proofs.Common.{◌≡◌, ◌∙◌, ℕ, ◌++◌, Bool, List, [], ap, append-nil, false, inl, inr, refl, subst, sym, true, ◌⊎◌, if◌then◌else◌, not, not-true, on_ok_weaker}
+use Rattle.nfa_paths.proofs.Common.{◌≡◌, ◌∙◌, ℕ, ◌++◌, Bool, List, [], ap, append-nil, false, inl, inr, refl, subst, sym, true, ◌⊎◌, if◌then◌else◌, not, on_ok_weaker}
 use Rattle.nfa_grep.specs.Meant.{Grepping, Mean, is_found, Options, Re}
 use Rattle.nfa_grep.specs.Printed.{is_selected, shown_if_selected, text_of}
 use Rattle.nfa_grep.proofs.PaintedLemmas.{shown-matches, shown-whole}
@@ -21,11 +21,6 @@ unshown options res name number offset line (inr both) =
     of true = refl
     of false = refl
 
--- a test that fails
-failed : (b : Bool) → not b ≡ false → b ≡ true
-failed true e = refl
-failed false e = absurd (cc)
-
 pub returns-then-not-options-clause-shown : goal.returns-then-not-options-clause-shown
 returns-then-not-options-clause-shown c =
     let options = c.args.self.now.options in
@@ -35,7 +30,7 @@ returns-then-not-options-clause-shown c =
     appended res meant ∙ ap (λ l. c.args.out.now.items ++ l) (sym (shown-matches options res
     place.name.now place.number place.offset c.args.line.now
     (sym (ap (λ (o : Options). o.only) same) ∙ c.if-options.true)
-    (sym (ap (λ (o : Options). o.inverted) same) ∙ not-true _ c.if-not-options.true))))
+    (sym (ap (λ (o : Options). o.inverted) same) ∙ c.if-not-options.true))))
     c.append_matches.ensures.shown
 
 pub returns-in_ok-append_whole-clause-shown : goal.returns-in_ok-append_whole-clause-shown
@@ -45,7 +40,7 @@ returns-in_ok-append_whole-clause-shown c = λ res meant.
     let line = c.args.line.now in
     let same : c.self.inside.options ≡ options = ap (λ (g : Grepping). g.options) c.self.view_is in
     let only : options.only ≡ false =
-    sym (ap (λ (o : Options). o.only) same) ∙ not-true _ c.if-not-options-2.true in
+    sym (ap (λ (o : Options). o.only) same) ∙ c.if-not-options-2.true in
     let selected : is_selected options res line ≡ true =
     sym (c.selects-selected.ensures.selected res meant) ∙ c.if-selected.true in
     let kept : c.selects-selected.new.self ≡ c.args.self.now = c.selects-selected.ensures.kept in
@@ -70,9 +65,9 @@ returns-else-selected-clause-shown c = λ res meant.
       | else-selected-via-then-selected+else-not-options-2 w ↦
           elim c.else-options.branch [
             | else-options-via-then-options+else-not-options v ↦
-                inr (sym only-is ∙ v.if-options.true, sym inverted-is ∙ failed _ v.if-not-options.false)
+                inr (sym only-is ∙ v.if-options.true, sym inverted-is ∙ v.if-not-options.false)
             | else-options-via-else-options v ↦
-                let only : c.self.inside.options.only ≡ true = failed _ w.if-not-options-2.false in
+                let only : c.self.inside.options.only ≡ true = w.if-not-options-2.false in
                 let both : false ≡ true = sym v.if-options.false ∙ only in
                 absurd (cc)
           ]
