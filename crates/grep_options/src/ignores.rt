@@ -14,8 +14,8 @@ const FILE: &str = ".gitignore";
 /// The name of what git has in a folder for itself.
 const OWN: &str = ".git";
 
-/// No line says something that has more bytes than the path of a file may have: the time and the stack that a glob takes
-/// grow with it.
+/// A line says nothing if it has more bytes than this, as many as the path of a file may have. The time and the stack
+/// that a glob takes grow with it.
 const LONGEST: usize = 4096;
 
 /// The rules of the folders on the way to a path, those of the folder where the search began first.
