@@ -5,9 +5,10 @@ use crate::input::search_named;
 use crate::progress::Progress;
 use crate::walk::Walk;
 use grep_options::chosen::{Step, is_passed, step_of};
+use grep_options::colours::Colours;
 use grep_options::command::Arguments;
 use grep_options::marked::{is_marked, without_mark};
-use grep_options::options::{Options, Report, Request, When};
+use grep_options::options::{Context, Options, Report, Request, When};
 use grep_options::output::is_output;
 use grep_options::patterns::{all_patterns, read_files};
 use grep_options::syntax::need_same;
@@ -44,21 +45,27 @@ pub struct Outcome {
 /// Searches the inputs that the arguments name, in order. An input that cannot be read, or that has a line for which
 /// there is no memory, is named on standard error, and the search goes on with the next one. The error is one that ends
 /// the search: of a pattern, of the output, or of memory.
-pub fn run(rt: &HostRuntime, arguments: &Arguments<'_>) -> Result<Outcome, Fault> {
+pub fn run(
+    rt: &HostRuntime,
+    arguments: &Arguments<'_>,
+    colours: Option<Colours<'_>>,
+) -> Result<Outcome, Fault> {
     let files = read_files(rt, &arguments.pattern_files)?;
     let patterns = all_patterns(rt.alloc(), &arguments.patterns, &files)?;
     need_same(rt.alloc(), arguments.syntax, &patterns)?;
-    search_for(rt, arguments, &patterns)
+    search_for(rt, arguments, colours, &patterns)
 }
 
-/// Searches for these patterns.
-fn search_for<'a>(
+/// Searches for these patterns, and prints in these colours.
+fn search_for<'p>(
     rt: &HostRuntime,
-    arguments: &Arguments<'a>,
-    patterns: &'a [&'a str],
+    arguments: &Arguments<'_>,
+    colours: Option<Colours<'p>>,
+    patterns: &'p [&'p str],
 ) -> Result<Outcome, Fault> {
     let options = Options {
         named: arguments.options.named || names_folder(rt, arguments),
+        colours,
         ..arguments.options
     };
     let mut grep = Grep::new(rt.alloc(), patterns, options)?;
@@ -272,7 +279,10 @@ fn search_one<W: Write>(
         name: shown_name(arguments, name),
         report: arguments.report,
         limit: arguments.limit,
-        context: arguments.context,
+        context: Context {
+            colours: grep.options().colours,
+            ..arguments.context
+        },
         used: outcome.selected,
         progress: outcome.progress.is_shown(),
     };

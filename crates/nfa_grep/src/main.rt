@@ -21,8 +21,9 @@ mod which;
 use crate::fault::Fault;
 use crate::files::{Outcome, is_coloured, run};
 use grep_options::arguments::{arguments, need_text};
-use grep_options::colours::{chosen_text, colours_in};
+use grep_options::colours::{Colours, chosen_text, colours_in};
 use grep_options::command::{Command, parse};
+use grep_options::options::When;
 use grep_options::words::split;
 use std::process::ExitCode;
 
@@ -58,16 +59,12 @@ fn obey(rt: &HostRuntime, words: &[&str]) -> Result<ExitCode, Fault> {
     let split = split(rt.alloc(), words)?;
     let chosen = chosen_text(rt)?;
     match parse(rt.alloc(), &split)? {
-        Command::Search(mut arguments) => {
+        Command::Search(arguments) => {
             need_text(rt.alloc(), words, &arguments.patterns)?;
             need_text(rt.alloc(), words, &arguments.pattern_files)?;
             need_text(rt.alloc(), words, &arguments.texts)?;
-            if is_coloured(rt, arguments.coloured) {
-                let colours = Some(colours_in(rt.alloc(), &chosen)?);
-                arguments.options.colours = colours;
-                arguments.context.colours = colours;
-            }
-            Ok(code_of(run(rt, &arguments)?))
+            let colours = colours_of(rt, arguments.coloured, &chosen)?;
+            Ok(code_of(run(rt, &arguments, colours)?))
         }
         Command::Say(error) => {
             need_text(rt.alloc(), words, words)?;
@@ -78,6 +75,18 @@ fn obey(rt: &HostRuntime, words: &[&str]) -> Result<ExitCode, Fault> {
             }
         }
     }
+}
+
+/// Returns the colours that the text names, if colours are printed.
+fn colours_of<'c>(
+    rt: &HostRuntime,
+    when: When,
+    text: &'c [u8],
+) -> Result<Option<Colours<'c>>, Fault> {
+    if !is_coloured(rt, when) {
+        return Ok(None);
+    }
+    Ok(Some(colours_in(rt.alloc(), text)?))
 }
 
 /// Returns the status of what the search came to.
