@@ -43,7 +43,7 @@ pub struct Arguments<'w> {
     /// The search of a file ends after this many selected lines.
     pub limit: u64,
     /// Which lines around a selected one are printed.
-    pub context: Context<'w>,
+    pub context: Context<'w, 'w>,
     /// When colours are printed, of which the options do not know yet.
     pub coloured: When,
     /// The syntax that the patterns are said to have.
@@ -138,7 +138,7 @@ fn without_lists<'w>(
     alloc: Global,
     matches: &ArgMatches<'w>,
     limit: u64,
-    context: Context<'w>,
+    context: Context<'w, 'w>,
 ) -> Arguments<'w> {
     Arguments {
         options: options_of(matches, false),
@@ -292,7 +292,7 @@ fn number_of(text: &str) -> Option<(u64, bool)> {
 }
 
 /// Returns which lines around a selected one are printed. `-A` and `-B` go before `-C`.
-fn context_of<'w>(matches: &ArgMatches<'w>) -> Result<Context<'w>, OptionsError> {
+fn context_of<'w>(matches: &ArgMatches<'w>) -> Result<Context<'w, 'w>, OptionsError> {
     let around = count_of(matches.get_str("context"))?;
     let before = count_of(matches.get_str("before-context"))?.or(around);
     let after = count_of(matches.get_str("after-context"))?.or(around);

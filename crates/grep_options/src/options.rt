@@ -89,7 +89,7 @@ pub enum Devices {
 
 /// Which lines around a selected one are printed, too.
 #[derive(Clone, Copy)]
-pub struct Context<'s> {
+pub struct Context<'s, 'c> {
     /// This many lines before it.
     pub before: usize,
     /// This many lines after it.
@@ -97,7 +97,7 @@ pub struct Context<'s> {
     /// Print the separator, as a line, between groups of lines that are not next to each other in an input.
     pub separated: bool,
     /// The colours that it is printed in.
-    pub colours: Option<Colours<'s>>,
+    pub colours: Option<Colours<'c>>,
     pub separator: &'s [u8],
 }
 
@@ -141,7 +141,7 @@ impl Report {
 
 /// What is searched for in one input.
 #[derive(Clone, Copy)]
-pub struct Request<'n> {
+pub struct Request<'n, 'c> {
     /// The name of the input, as it is printed.
     pub name: &'n str,
     /// What is printed of it.
@@ -149,7 +149,7 @@ pub struct Request<'n> {
     /// The search ends after this many selected lines.
     pub limit: u64,
     /// Which lines around a selected one are printed.
-    pub context: Context<'n>,
+    pub context: Context<'n, 'c>,
     /// Some line of an input before this one was selected.
     pub used: bool,
     /// A line on standard error says how far the search is, and is erased before a message.

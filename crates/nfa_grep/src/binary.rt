@@ -18,9 +18,9 @@ use text_lines::stream::write_bytes;
 /// one is selected.
 pub fn search_input<R: BufRead, W: Write>(
     rt: &HostRuntime,
-    grep: &mut Grep<'_>,
+    grep: &mut Grep<'_, '_>,
     binary: BinaryFiles,
-    request: Request<'_>,
+    request: Request<'_, '_>,
     input: &mut R,
     out: &mut W,
 ) -> Result<u64, Failure> {
@@ -60,7 +60,7 @@ fn is_any_text(binary: BinaryFiles, report: Report, end: u8) -> bool {
 fn print_none<W: Write>(
     alloc: Global,
     options: Options<'_>,
-    request: Request<'_>,
+    request: Request<'_, '_>,
     out: &mut W,
 ) -> Result<(), Failure>
     ensures { OnOk result (Appends (W.contents out.old) (W.contents out.new)

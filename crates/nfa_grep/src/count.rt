@@ -33,7 +33,7 @@ const NONE: Counted = Counted {
 /// Lines are searched where the reader holds them, so the memory is bounded by one line.
 pub fn count_lines<R: BufRead>(
     alloc: Global,
-    grep: &mut Grep<'_>,
+    grep: &mut Grep<'_, '_>,
     limit: u64,
     input: &mut R,
 ) -> Result<u64, Failure>
@@ -71,7 +71,7 @@ fn after(number: u64, lines: usize) -> Result<u64, Failure> {
 /// Counts lines that come next: those that are whole in what the reader holds, or else one that is copied. If each line
 /// that is selected has bytes that are looked for first, only one is counted. There is none at the end of the input.
 fn count_next<R: BufRead>(
-    grep: &mut Grep<'_>,
+    grep: &mut Grep<'_, '_>,
     limit: u64,
     number: u64,
     input: &mut R,
@@ -109,7 +109,7 @@ fn count_next<R: BufRead>(
 /// Counts the next line, and copies it first.
 #[inline(never)]
 fn count_copy<R: BufRead>(
-    grep: &mut Grep<'_>,
+    grep: &mut Grep<'_, '_>,
     limit: u64,
     number: u64,
     input: &mut R,
@@ -133,7 +133,7 @@ fn count_copy<R: BufRead>(
 
 /// Counts the lines at the start of the text that have their ends: at most this many, and none after the one with which
 /// the limit is reached.
-fn count_first(grep: &mut Grep<'_>, text: &[u8], most: usize, limit: u64) -> Counted
+fn count_first(grep: &mut Grep<'_, '_>, text: &[u8], most: usize, limit: u64) -> Counted
     ensures within { result.len ≤ length text.now }
     ensures at_most { result.selected ≤ limit }
     ensures counted { (res : List Re) → Mean grep.old res

@@ -57,11 +57,11 @@ pub fn run(
 }
 
 /// Searches for these patterns, and prints in these colours.
-fn search_for<'p>(
+fn search_for(
     rt: &HostRuntime,
     arguments: &Arguments<'_>,
-    colours: Option<Colours<'p>>,
-    patterns: &'p [&'p str],
+    colours: Option<Colours<'_>>,
+    patterns: &[&str],
 ) -> Result<Outcome, Fault> {
     let options = Options {
         named: arguments.options.named || names_folder(rt, arguments),
@@ -120,7 +120,7 @@ fn names_folder(rt: &HostRuntime, arguments: &Arguments<'_>) -> bool {
 /// Searches the inputs, and writes many lines at once.
 fn search_buffered(
     rt: &HostRuntime,
-    grep: &mut Grep<'_>,
+    grep: &mut Grep<'_, '_>,
     arguments: &Arguments<'_>,
     begin: Outcome,
 ) -> Result<Outcome, Failure> {
@@ -138,7 +138,7 @@ fn search_buffered(
 /// standard input.
 fn search_all<W: Write>(
     rt: &HostRuntime,
-    grep: &mut Grep<'_>,
+    grep: &mut Grep<'_, '_>,
     arguments: &Arguments<'_>,
     begin: Outcome,
     out: &mut W,
@@ -155,7 +155,7 @@ fn search_all<W: Write>(
 /// Searches these inputs. If nothing is printed, it ends at the first selected line.
 fn search_each<W: Write>(
     rt: &HostRuntime,
-    grep: &mut Grep<'_>,
+    grep: &mut Grep<'_, '_>,
     arguments: &Arguments<'_>,
     names: &[&str],
     begin: Outcome,
@@ -175,7 +175,7 @@ fn search_each<W: Write>(
 /// Searches the input or the folder that an argument names, unless it is left out.
 fn search_name<W: Write>(
     rt: &HostRuntime,
-    grep: &mut Grep<'_>,
+    grep: &mut Grep<'_, '_>,
     arguments: &Arguments<'_>,
     name: &str,
     outcome: &mut Outcome,
@@ -203,7 +203,7 @@ fn is_over(arguments: &Arguments<'_>, outcome: Outcome) -> bool {
 /// Searches the files in the folder, and in those in it, in the order of names.
 fn search_folder<W: Write>(
     rt: &HostRuntime,
-    grep: &mut Grep<'_>,
+    grep: &mut Grep<'_, '_>,
     arguments: &Arguments<'_>,
     folder: &str,
     outcome: &mut Outcome,
@@ -269,7 +269,7 @@ fn push_folder(
 /// Searches one input, and notes in `outcome` what the search came to.
 fn search_one<W: Write>(
     rt: &HostRuntime,
-    grep: &mut Grep<'_>,
+    grep: &mut Grep<'_, '_>,
     arguments: &Arguments<'_>,
     name: &str,
     outcome: &mut Outcome,

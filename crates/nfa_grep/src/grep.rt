@@ -25,17 +25,17 @@ use text_lines::line::record_content;
 /// owns the engine, and a second one that finds the numbers of the patterns that match, if they are wanted.
 ///
 /// A contract sees the texts of the patterns and the options.
-pub struct Grep<'p> {
+pub struct Grep<'p, 'c> {
     alloc: Global,
     patterns: &'p [&'p str],
-    options: Options<'p>,
+    options: Options<'c>,
     regex: Regex,
     which: Option<Which>,
     needed: Vec<u8>,
 }
 
 // Written out, so that a drop is one call in a proof, and not one for each field.
-impl<'p> Drop for Grep<'p> {
+impl<'p, 'c> Drop for Grep<'p, 'c> {
     fn drop(self) {
         let Grep {
             alloc: _,
@@ -48,7 +48,7 @@ impl<'p> Drop for Grep<'p> {
     }
 }
 
-impl<'p> Model for Grep<'p> {
+impl<'p, 'c> Model for Grep<'p, 'c> {
     ghost use Rattle.std.specs.Prelude.{◌≡◌, MatchOption, false, map, true};
     ghost use Rattle.nfa_compiler.specs.Compiled.{IsNfaOf};
     ghost use Rattle.nfa_grep.specs.Meant.{Grepping, IsBuilt, IsSearched};
@@ -64,13 +64,13 @@ impl<'p> Model for Grep<'p> {
         × AreNeeded g.options (map (λ text. text.now) g.patterns.now) g.needed.items };
 }
 
-impl<'p> Grep<'p> {
+impl<'p, 'c> Grep<'p, 'c> {
     /// Compiles the patterns. Fails if a text is not a pattern, if the patterns are too large, or if allocation failed.
     pub fn new(
         alloc: Global,
         patterns: &'p [&'p str],
-        options: Options<'p>,
-    ) -> Result<Grep<'p>, Fault>
+        options: Options<'c>,
+    ) -> Result<Grep<'p, 'c>, Fault>
         ensures patterns { IfOk result (λ grep. grep.patterns ≡ map (λ text. text.now) patterns.now) }
         ensures options { IfOk result (λ grep. grep.options ≡ options.entry) }
         ensures refused { IfErr result (λ fault. IsTextRefusal options.entry (map (λ text. text.now) patterns.now) fault
@@ -84,9 +84,9 @@ impl<'p> Grep<'p> {
     fn of_trees(
         alloc: Global,
         patterns: &'p [&'p str],
-        options: Options<'p>,
+        options: Options<'c>,
         trees: &[Parsed],
-    ) -> Result<Grep<'p>, Fault>
+    ) -> Result<Grep<'p, 'c>, Fault>
         requires { AllZip (IsReadFrom options) (map (λ text. text.now) patterns.now) trees.now }
         ensures patterns { IfOk result (λ grep. grep.patterns ≡ map (λ text. text.now) patterns.now) }
         ensures options { IfOk result (λ grep. grep.options ≡ options.entry) }
@@ -107,7 +107,7 @@ impl<'p> Grep<'p> {
     }
 
     /// Returns the options.
-    pub fn options(&self) -> Options<'p>
+    pub fn options(&self) -> Options<'c>
         ensures { result ≡ self.now.options }
     {
         self.options

@@ -16,10 +16,10 @@ use std::collections::VecDeque;
 
 /// What is printed of the lines of an input, of which some are selected.
 #[derive(Drop)]
-pub struct Groups<'s> {
+pub struct Groups<'s, 'c> {
     alloc: Global,
     /// Which lines are printed around a selected one.
-    pub context: Context<'s>,
+    pub context: Context<'s, 'c>,
     /// Some line was printed, of this input or of one before it.
     pub used: bool,
     /// The line before the first one that is kept was not printed.
@@ -34,9 +34,9 @@ pub struct Groups<'s> {
     pub text: Vec<u8>,
 }
 
-impl<'s> Groups<'s> {
+impl<'s, 'c> Groups<'s, 'c> {
     /// Returns the groups of an input of which no line was taken.
-    pub fn new(alloc: Global, request: Request<'s>) -> Groups<'s>
+    pub fn new(alloc: Global, request: Request<'s, 'c>) -> Groups<'s, 'c>
         ensures printed { (later : List Item) → printed_later result later
             ≡ grouped request.entry.context request.entry.used true 0 later }
         ensures context { result.context ≡ request.entry.context }
@@ -90,7 +90,7 @@ impl<'s> Groups<'s> {
     /// is `ahead`, and after it `text`.
     pub fn take_line(
         &mut self,
-        grep: &mut Grep<'_>,
+        grep: &mut Grep<'_, '_>,
         searched: bool,
         place: Place<'_>,
         line: &[u8],
@@ -146,7 +146,12 @@ impl<'s> Groups<'s> {
     }
 
     /// Takes a line that is not selected.
-    fn pass(&mut self, grep: &mut Grep<'_>, place: Place<'_>, line: &[u8]) -> Result<(), AllocError>
+    fn pass(
+        &mut self,
+        grep: &mut Grep<'_, '_>,
+        place: Place<'_>,
+        line: &[u8],
+    ) -> Result<(), AllocError>
         requires counted { place.offset + length line.now < 2 ^ 64 }
         requires in_order { IsInOrder self.old }
         ensures printed { OnOk result ((res : List Re) → Mean grep.old res → (later : List Item)
@@ -206,7 +211,7 @@ impl<'s> Groups<'s> {
 
 /// Appends the separator, if it is wanted, some line was printed before, and the last one was not.
 fn append_between(
-    context: Context<'_>,
+    context: Context<'_, '_>,
     used: bool,
     gap: bool,
     out: &mut Vec<u8>,

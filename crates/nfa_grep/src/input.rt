@@ -11,9 +11,9 @@ use text_lines::failure::Failure;
 /// Searches the input of this name, and returns how many of the lines that were searched are selected.
 pub fn search_named<W: Write>(
     rt: &HostRuntime,
-    grep: &mut Grep<'_>,
+    grep: &mut Grep<'_, '_>,
     binary: BinaryFiles,
-    request: Request<'_>,
+    request: Request<'_, '_>,
     name: &str,
     out: &mut W,
 ) -> Result<u64, Failure> {
@@ -28,7 +28,7 @@ pub fn search_named<W: Write>(
 }
 
 /// Prints numbers of one width, that of the size of the input of this name, if that is wanted.
-fn align(rt: &HostRuntime, grep: &mut Grep<'_>, name: &str) {
+fn align(rt: &HostRuntime, grep: &mut Grep<'_, '_>, name: &str) {
     let options = grep.options();
     if options.tabbed {
         grep.align(width_of(options.numbers, input_size(rt, name)));
@@ -47,9 +47,9 @@ fn buffered<R: Read + Drop>(rt: &HostRuntime, reader: R) -> Result<BufReader<R>,
 /// what `std` has read ahead of that it gives back at the end.
 fn search_standard<W: Write>(
     rt: &HostRuntime,
-    grep: &mut Grep<'_>,
+    grep: &mut Grep<'_, '_>,
     binary: BinaryFiles,
-    request: Request<'_>,
+    request: Request<'_, '_>,
     out: &mut W,
 ) -> Result<u64, Failure> {
     if may_go_on(request) && is_file_input(rt) {
@@ -62,7 +62,7 @@ fn search_standard<W: Write>(
 
 /// Returns whether another program may go on where the search ends: after a number of lines, and not at the first one
 /// in any case.
-fn may_go_on(request: Request<'_>) -> bool {
+fn may_go_on(request: Request<'_, '_>) -> bool {
     match request.report {
         Report::Lines | Report::Count => request.limit < u64::MAX,
         Report::With | Report::Without | Report::Nothing => false,

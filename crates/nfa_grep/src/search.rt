@@ -71,8 +71,8 @@ struct Taken {
 /// Nothing is read after the line with which the limit is reached, and after those that are printed because of it.
 pub fn print_matches<R: BufRead, W: Write>(
     alloc: Global,
-    grep: &mut Grep<'_>,
-    request: Request<'_>,
+    grep: &mut Grep<'_, '_>,
+    request: Request<'_, '_>,
     input: &mut R,
     out: &mut W,
 ) -> Result<u64, Failure>
@@ -102,8 +102,8 @@ pub fn print_matches<R: BufRead, W: Write>(
 /// selected.
 fn print_lines<R: BufRead, W: Write>(
     alloc: Global,
-    grep: &mut Grep<'_>,
-    request: Request<'_>,
+    grep: &mut Grep<'_, '_>,
+    request: Request<'_, '_>,
     input: &mut R,
     out: &mut W,
 ) -> Result<u64, Failure>
@@ -127,8 +127,8 @@ fn print_lines<R: BufRead, W: Write>(
 /// what was printed is a beginning of what is printed of the input.
 fn search<R: BufRead, W: Write>(
     alloc: Global,
-    grep: &mut Grep<'_>,
-    request: Request<'_>,
+    grep: &mut Grep<'_, '_>,
+    request: Request<'_, '_>,
     input: &mut R,
     out: &mut W,
 ) -> Result<u64, Failure>
@@ -167,8 +167,8 @@ fn search<R: BufRead, W: Write>(
 /// Passes lines that come next, if they are not selected and not printed, and returns where the line after them is.
 #[inline(always)]
 fn pass_lines<R: BufRead>(
-    grep: &Grep<'_>,
-    groups: &mut Groups<'_>,
+    grep: &Grep<'_, '_>,
+    groups: &mut Groups<'_, '_>,
     at: LineStart,
     input: &mut R,
 ) -> Result<LineStart, Failure>
@@ -199,8 +199,8 @@ fn pass_lines<R: BufRead>(
 /// input.
 #[inline]
 fn take_next<R: BufRead>(
-    grep: &mut Grep<'_>,
-    groups: &mut Groups<'_>,
+    grep: &mut Grep<'_, '_>,
+    groups: &mut Groups<'_, '_>,
     searched: bool,
     place: Place<'_>,
     input: &mut R,
@@ -235,8 +235,8 @@ fn take_next<R: BufRead>(
 /// Takes the next line, and copies it first.
 #[inline(never)]
 fn take_copy<R: BufRead>(
-    grep: &mut Grep<'_>,
-    groups: &mut Groups<'_>,
+    grep: &mut Grep<'_, '_>,
+    groups: &mut Groups<'_, '_>,
     searched: bool,
     place: Place<'_>,
     input: &mut R,
@@ -260,8 +260,8 @@ fn take_copy<R: BufRead>(
 /// Takes this line, which may have its end.
 #[inline]
 fn take_line(
-    grep: &mut Grep<'_>,
-    groups: &mut Groups<'_>,
+    grep: &mut Grep<'_, '_>,
+    groups: &mut Groups<'_, '_>,
     searched: bool,
     place: Place<'_>,
     line: &[u8],

@@ -22,7 +22,7 @@ use regex_search_core::{Input, Match};
 use std::alloc::AllocError;
 use text_lines::line::{append_record, record_content};
 
-impl<'p> Grep<'p> {
+impl<'p, 'c> Grep<'p, 'c> {
     /// Returns all matches in the text of a line, from left to right.
     fn matches(&mut self, text: &[u8]) -> Result<Vec<Match>, AllocError>
         ensures all { IfOk result (λ found. (res : List Re) → Mean self.old res
