@@ -10,7 +10,7 @@ use crate::flags::selecting::{FILES, KINDS, LIMITS, PATTERNS};
 use clap::{Arg, Command};
 use std::alloc::{AllocError, Global};
 
-/// So many tables there are.
+/// How many tables there are.
 const TABLES: usize = 8;
 
 /// The arguments that belong to no option: the pattern if there is no `-e` and no `-f`, and the files.

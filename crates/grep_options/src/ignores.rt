@@ -85,7 +85,7 @@ impl Ignores {
         is_ignored(rt.alloc(), &self.rules, folder, inside)
     }
 
-    /// Drops the rules of folders in which a path of so many names is not.
+    /// Drops the rules of folders in which a path with this many names is not.
     fn leave(&mut self, depth: usize) {
         for _ in 0..self.rules.len() {
             match self.rules.last() {

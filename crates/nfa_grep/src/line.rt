@@ -1,4 +1,6 @@
 //! What comes before a line where it is printed.
+//!
+//! What is called for each line or match is inlined, so that the options, which have all colours, are not copied.
 ghost use Rattle.std.specs.Prelude.{◌≡◌, ◌++◌, OnOk, decimal};
 ghost use Rattle.nfa_grep.specs.Painted.{aligned, label};
 ghost use Rattle.nfa_grep.specs.Printed.{count_line, head, label_if, name_end, name_label, name_line, summary};
@@ -40,6 +42,7 @@ pub fn width_of(numbers: bool, size: Option<u64>) -> usize
 }
 
 /// Appends the number, with blanks before it up to the width that is wanted, in this colour, and this byte.
+#[inline(always)]
 fn append_number(
     options: Options<'_>,
     colour: Colour,
@@ -57,6 +60,7 @@ fn append_number(
 }
 
 /// Appends the number of the line and the offset, if they are wanted.
+#[inline(always)]
 fn append_numbers(
     options: Options<'_>,
     place: Place<'_>,
@@ -75,6 +79,7 @@ fn append_numbers(
 }
 
 /// Appends a tab, if it is wanted, something is before it, and there is `some` text after it.
+#[inline(always)]
 fn append_tab(options: Options<'_>, some: bool, out: &mut Vec<u8>) -> Result<(), AllocError>
     ensures { OnOk result (out.new.items ≡ out.old.items ++ tab_if options.entry some) }
 {
@@ -86,6 +91,7 @@ fn append_tab(options: Options<'_>, some: bool, out: &mut Vec<u8>) -> Result<(),
 }
 
 /// Appends the name and what is after it, if it is wanted.
+#[inline(always)]
 fn append_name(
     options: Options<'_>,
     end: u8,
@@ -103,6 +109,7 @@ fn append_name(
 }
 
 /// Appends what is after a name: a byte 0, or this byte.
+#[inline(always)]
 fn append_name_end(options: Options<'_>, end: u8, out: &mut Vec<u8>) -> Result<(), AllocError>
     ensures { OnOk result (out.new.items ≡ out.old.items ++ name_end options.entry end) }
 {
@@ -114,6 +121,7 @@ fn append_name_end(options: Options<'_>, end: u8, out: &mut Vec<u8>) -> Result<(
 }
 
 /// Appends the mark and this byte, if it is wanted.
+#[inline(always)]
 fn append_mark(
     options: Options<'_>,
     end: u8,
@@ -131,6 +139,7 @@ fn append_mark(
 
 /// Appends what comes before a line or a match: the name of the input, the mark, the number of the line, the offset and
 /// a tab, if they are wanted. There is `some` text after them.
+#[inline(always)]
 #[tactic(auto, unfolding(crate::specs::Printed::head))]
 pub fn append_head(
     options: Options<'_>,

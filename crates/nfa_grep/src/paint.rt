@@ -1,4 +1,4 @@
-//! Texts in colours, as a terminal shows them.
+//! Texts in colours, as a terminal shows them. What is called for each text is inlined, so that colours are not copied.
 ghost use Rattle.std.specs.Prelude.{◌≡◌, ◌≤◌, ◌++◌, [], ◌∷◌, IfOk, None, OnOk, map, replicate};
 ghost use Rattle.regex_search_core.specs.Found.{found_of};
 ghost use Rattle.regex_search_core.specs.Search.{whole};
@@ -38,6 +38,7 @@ pub enum Colour {
 }
 
 /// Returns the code of this colour.
+#[inline(always)]
 pub fn code_of<'c>(colours: Colours<'c>, colour: Colour) -> &'c [u8]
     ensures { result.now ≡ code_of colours.entry colour }
 {
@@ -54,6 +55,7 @@ pub fn code_of<'c>(colours: Colours<'c>, colour: Colour) -> &'c [u8]
 }
 
 /// Appends what begins a text in the colour of this code.
+#[inline(always)]
 fn append_start(colours: Colours<'_>, code: &[u8], out: &mut Vec<u8>) -> Result<(), AllocError>
     ensures { OnOk result (out.new.items ≡ out.old.items ++ start_of colours.entry code.now) }
 {
@@ -67,6 +69,7 @@ fn append_start(colours: Colours<'_>, code: &[u8], out: &mut Vec<u8>) -> Result<
 }
 
 /// Appends what ends a text in the colour of this code.
+#[inline(always)]
 fn append_end(colours: Colours<'_>, code: &[u8], out: &mut Vec<u8>) -> Result<(), AllocError>
     ensures { OnOk result (out.new.items ≡ out.old.items ++ end_of colours.entry code.now) }
 {
@@ -78,6 +81,7 @@ fn append_end(colours: Colours<'_>, code: &[u8], out: &mut Vec<u8>) -> Result<()
 }
 
 /// Appends what clears the rest of the line, unless it is kept.
+#[inline(always)]
 fn append_clear(colours: Colours<'_>, out: &mut Vec<u8>) -> Result<(), AllocError>
     ensures { OnOk result (out.new.items ≡ out.old.items ++ clear colours.entry) }
 {
@@ -88,6 +92,7 @@ fn append_clear(colours: Colours<'_>, out: &mut Vec<u8>) -> Result<(), AllocErro
 }
 
 /// Appends the text, in this colour if colours are wanted.
+#[inline(always)]
 pub fn append_painted(
     colours: Option<Colours<'_>>,
     colour: Colour,
@@ -100,6 +105,7 @@ pub fn append_painted(
 }
 
 /// Appends the text, with blanks before it if it has fewer bytes than `width`, in this colour if colours are wanted.
+#[inline(always)]
 pub fn append_aligned(
     colours: Option<Colours<'_>>,
     colour: Colour,
@@ -132,6 +138,7 @@ fn append_blanks(count: usize, out: &mut Vec<u8>) -> Result<(), AllocError>
 }
 
 /// Appends a label and this byte after it, in colours if they are wanted.
+#[inline(always)]
 pub fn append_label(
     colours: Option<Colours<'_>>,
     colour: Colour,

@@ -198,6 +198,7 @@ impl<'p, 'c> Grep<'p, 'c> {
 }
 
 /// Returns the colour of the matches in a line, if this byte is after its labels.
+#[inline(always)]
 fn match_colour(end: u8) -> Colour
     ensures { result ≡ match_colour end }
 {
@@ -229,6 +230,7 @@ fn has_colours(options: Options<'_>, colours: Colours<'_>, end: u8) -> bool
 }
 
 /// Returns whether the line has a byte before its end.
+#[inline(always)]
 fn has_text(options: Options<'_>, line: &[u8]) -> bool
     ensures { result ≡ has_text options.entry line.now }
 {
@@ -260,6 +262,7 @@ fn append_pieces(
 }
 
 /// Appends the match as a line of its own, if it is not empty.
+#[inline(always)]
 fn append_piece(
     options: Options<'_>,
     place: Place<'_>,
