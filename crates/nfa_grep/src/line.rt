@@ -149,7 +149,8 @@ pub fn append_head(
     out: &mut Vec<u8>,
 ) -> Result<(), AllocError>
     ensures { OnOk result (out.new.items ≡ out.old.items
-        ++ head options.entry place.entry.end place.entry.name.now mark.now place.entry.number place.entry.offset some) }
+        ++ head options.entry place.entry.end place.entry.name.now mark.now place.entry.number place.entry.offset
+        some) }
 {
     append_name(options, place.end, place.name, out)?;
     append_mark(options, place.end, mark, out)?;

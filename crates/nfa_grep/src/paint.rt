@@ -4,7 +4,8 @@ ghost use Rattle.regex_search_core.specs.Found.{found_of};
 ghost use Rattle.regex_search_core.specs.Search.{whole};
 ghost use Rattle.nfa_engines.specs.Lists.{AreDisjoint, IsInside};
 ghost use Rattle.nfa_grep.specs.Painted.{aligned, clear, code_of, end_of, in_colours, label, last_part, matched_from};
-ghost use Rattle.nfa_grep.specs.Painted.{painted, painted_text, printed_to, start_of, ColoursCanBeLeftOut, PartsAreTheText};
+ghost use Rattle.nfa_grep.specs.Painted.{painted, painted_text, printed_to, start_of, ColoursCanBeLeftOut};
+ghost use Rattle.nfa_grep.specs.Painted.{PartsAreTheText};
 
 use grep_options::colours::Colours;
 use regex_search_core::Match;

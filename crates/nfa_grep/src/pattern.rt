@@ -19,7 +19,8 @@ pub fn read_patterns(
     options: Options<'_>,
     texts: &[&str],
 ) -> Result<Vec<Parsed>, Fault>
-    ensures read { IfOk result (λ trees. AllZip (IsReadFrom options.entry) (map (λ text. text.now) texts.now) trees.items) }
+    ensures read { IfOk result (λ trees.
+        AllZip (IsReadFrom options.entry) (map (λ text. text.now) texts.now) trees.items) }
     ensures refused { IfErr result (IsTextRefusal options.entry (map (λ text. text.now) texts.now)) }
 {
     let mut trees = Vec::with_capacity(alloc, texts.len())?;

@@ -252,8 +252,8 @@ fn append_pieces(
     requires counted { place.offset + length line.now < 2 ^ 64 }
     requires inside { All (λ m. (found_of m).end ≤ length line.now) matches.now }
     ensures { OnOk result (out.new.items ≡ out.old.items
-        ++ flat_map (piece options.entry place.entry.end place.entry.name.now mark.now place.entry.number place.entry.offset
-        line.now) (map span_of (map found_of matches.now))) }
+        ++ flat_map (piece options.entry place.entry.end place.entry.name.now mark.now place.entry.number
+        place.entry.offset line.now) (map span_of (map found_of matches.now))) }
 {
     for found in matches {
         append_piece(options, place, mark, line, *found, out)?;
@@ -274,8 +274,8 @@ fn append_piece(
     requires counted { place.offset + length line.now < 2 ^ 64 }
     requires inside { (found_of found).end ≤ length line.now }
     ensures { OnOk result (out.new.items ≡ out.old.items
-        ++ piece options.entry place.entry.end place.entry.name.now mark.now place.entry.number place.entry.offset line.now
-        (span_of (found_of found))) }
+        ++ piece options.entry place.entry.end place.entry.name.now mark.now place.entry.number place.entry.offset
+        line.now (span_of (found_of found))) }
 {
     if found.start() == found.end() {
         return Ok(());

@@ -6,4 +6,5 @@ pub returns-clause-parts : goal.returns-clause-parts
 returns-clause-parts c = λ colours line hit text ms apart. parts-are colours line hit text ms apart
 
 pub returns-clause-bytes : goal.returns-clause-bytes
-returns-clause-bytes c = λ colours line hit text ms are apart none. colours-left-out colours line hit are text none ms apart
+returns-clause-bytes c = λ colours line hit text ms are apart none.
+    colours-left-out colours line hit are text none ms apart
