@@ -36,10 +36,10 @@ GROUPS = [
      'Searcher Offered TryFoundIter FoundIter TryCapturesIter CapturesIter', ''),
     ('Matches that split a codepoint', 'nfa_engines::empty', 'nfa_search_base', '',
      'skip_splits_fwd skip_splits_fwd_by_ref skip_splits_rev skip_splits_rev_by_ref'),
-    ('Whether an NFA records its bounds', 'nfa_match_spans', 'nfa_match_spans', '', 'records_match_spans'),
-    ('The bytes that each match begins with', 'nfa_prefix', 'nfa_prefix', 'Literals FewBytes RequiredBytes',
+    ('Whether an NFA records its bounds', 'nfa_facts::match_spans', 'nfa_facts', '', 'records_match_spans'),
+    ('The bytes that each match begins with', 'nfa_facts::literal', 'nfa_facts', 'Literals FewBytes RequiredBytes',
      'literal_prefix find_prefix'),
-    ('Fewer captures', 'nfa_captures', 'nfa_captures', 'WhichCaptures', 'keep_captures'),
+    ('Fewer captures', 'nfa_facts::captures', 'nfa_facts', 'WhichCaptures', 'keep_captures'),
     ('The lazy DFA', 'nfa_lazy_dfa', 'nfa_lazy_dfa', 'DFA Cache Config Builder StopError Window', ''),
     ('Scans by steps, for determinizers', 'nfa_determinize::closure', 'nfa_determinize', '',
      'closure step pattern_by_kind kept'),
@@ -52,13 +52,13 @@ GROUPS = [
 ]
 
 # Crates that have public names which no group lists: those names, or none for all, which only engines use.
-FOR_ENGINES = {'nfa_search_base': None, 'nfa_prefix': {'Move', 'only_move', 'ReachedStates', 'SingleBytes', 'Cut', 'Passed', 'walk'}}
+FOR_ENGINES = {'nfa_search_base': None}
 
-# The modules of laws: empty functions whose contracts are theorems.
+# The modules of laws, each with the crate of its source: empty functions whose contracts are theorems.
 LAWS = [('nfa_engines::laws', 'nfa_engines'), ('nfa_choice::laws', 'nfa_choice'),
-        ('nfa_engines::iter::laws', 'nfa_search_base'), ('nfa_match_spans::laws', 'nfa_match_spans'),
-        ('nfa_onepass::laws', 'nfa_onepass'), ('nfa_prefix::laws', 'nfa_prefix'), ('nfa_captures::laws', 'nfa_captures'),
-        ('nfa_compiler::laws', 'nfa_compiler'),
+        ('nfa_engines::iter::laws', 'nfa_search_base'), ('nfa_facts::match_spans::laws', 'nfa_facts'),
+        ('nfa_facts::literal::laws', 'nfa_facts'), ('nfa_facts::captures::laws', 'nfa_facts'),
+        ('nfa_onepass::laws', 'nfa_onepass'), ('nfa_compiler::laws', 'nfa_compiler'),
         ('nfa_determinize::laws', 'nfa_determinize'), ('nfa_meta::laws', 'nfa_meta')]
 
 
@@ -126,14 +126,16 @@ class Sources:
         """The pages of the library, for users and for those who change it."""
         return self.files(r'(docs/)?[^/]+\.md')
 
-    def items(self, crate, name=r'\w+'):
+    def items(self, crate):
         """The public items of a crate, those of the main files first."""
         main = {'engine.rt', 'search.rt', 'choose.rt', 'hybrid.rt', 'compiler.rt', 'nfa.rt', 'regex.rt'}
-        files = sorted(self.code(crate, name), key=lambda it: it.split('/')[-1] not in main)
+        files = sorted(self.code(crate), key=lambda it: it.split('/')[-1] not in main)
         return [item for file in files for item in items(self.text(file))]
 
-    def laws(self, crate):
-        return [it for it in self.items(crate, 'laws') if it.kind == 'fn']
+    def laws(self, path, crate):
+        """The laws of the module with this path, in the sources of this crate."""
+        file = path.partition('::')[2].replace('::', '/')
+        return [it for it in items(self.text(f'crates/{crate}/src/{file}.rt')) if it.kind == 'fn']
 
     def definitions(self):
         """The definitions of the crates' specs, each after its crate and its file."""

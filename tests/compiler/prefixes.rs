@@ -2,7 +2,7 @@
 
 use anyhow::Result;
 use nfa_compiler::Compiler;
-use nfa_prefix::{find_prefix, literal_prefix};
+use nfa_facts::{find_prefix, literal_prefix};
 
 /// Patterns, each with its prefix. It ends before a class of bytes, an alternation and an optional part. Two characters
 /// that begin with the same byte have that byte as prefix.

@@ -2,7 +2,7 @@
 
 use anyhow::Result;
 use nfa_compiler::Compiler;
-use nfa_prefix::RequiredBytes;
+use nfa_facts::RequiredBytes;
 
 /// Patterns, each with the bytes that all of its matches have, and whether none has a line feed before them.
 const REQUIRED: [(&str, Option<(&str, bool)>); 25] = [

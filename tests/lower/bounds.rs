@@ -1,7 +1,7 @@
 //! Whether NFAs record the bounds of their matches: the samples, and NFAs with mistakes.
 use super::fixtures::named;
 use Row::{Byte, Capture, Either, Match};
-use nfa_match_spans::records_match_spans;
+use nfa_facts::records_match_spans;
 use std::alloc::Global;
 use std::test::Fail;
 use test_support::machine::Machine;

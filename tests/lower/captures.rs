@@ -1,9 +1,9 @@
 //! NFAs with fewer captures.
 use super::fixtures::named;
 use WhichCaptures::{All, Implicit, None};
-use nfa_captures::{WhichCaptures, keep_captures};
 use nfa_engines::Input;
 use nfa_engines::pikevm::PikeVM;
+use nfa_facts::{WhichCaptures, keep_captures};
 use std::test::Fail;
 use test_support::engines::fitting;
 use thompson_nfa::State;

@@ -9,8 +9,8 @@ use Rattle.nfa_engines.specs.MatchKind.{MatchKind}
 use Rattle.nfa_engines.specs.Paths.{path_half, path_pattern, slot_row, IsFindAnswer, IsHalfAnswer}
 use Rattle.nfa_engines.specs.Search.{Search}
 use Rattle.nfa_engines.specs.Slots.{match_of}
-use Rattle.nfa_match_spans.specs.MatchSpanLaws.{HalfMatchesAreEnds}
-use Rattle.nfa_match_spans.specs.StatePaths.{RecordsMatchSpans}
+use Rattle.nfa_facts.specs.MatchSpanLaws.{HalfMatchesAreEnds}
+use Rattle.nfa_facts.specs.StatePaths.{RecordsMatchSpans}
 use Rattle.nfa_search_base.proofs.ListLemmas.{as_items, items-greedy, last-unique, match-lies, matches_in-as_items}
 use Rattle.nfa_search_base.proofs.IterStateLemmas.{IsOrdered}
 use Rattle.nfa_hybrid.specs.HalfLists.{AnswersHalf, AreHalves}

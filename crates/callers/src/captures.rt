@@ -1,17 +1,17 @@
 //! Callers of the laws on NFAs with fewer captures.
 ghost use Rattle.std.specs.Prelude.{◌≡◌, option_map, IfOk};
-ghost use Rattle.nfa_captures.specs.Kept.{with_captures};
-ghost use Rattle.nfa_captures.specs.declared.which.WhichCaptures.TheVariants as which;
+ghost use Rattle.nfa_facts.specs.Kept.{with_captures};
+ghost use Rattle.nfa_facts.specs.declared.captures.which.WhichCaptures.TheVariants as which;
 ghost use Rattle.nfa_engines.specs.Engines.{Fits, kind_of};
 ghost use Rattle.nfa_engines.specs.Found.{found_of, half_found_of};
 ghost use Rattle.nfa_engines.specs.Paths.{IsFindAnswer, IsHalfAnswer};
 ghost use Rattle.nfa_engines.specs.Search.{search_of};
 
 use anyhow::Result;
-use nfa_captures::laws::{matches_need_group_0, no_captures_are_needed};
-use nfa_captures::{WhichCaptures, keep_captures};
 use nfa_engines::pikevm::{Cache, PikeVM};
 use nfa_engines::{HalfMatch, Input, Match};
+use nfa_facts::captures::laws::{matches_need_group_0, no_captures_are_needed};
+use nfa_facts::{WhichCaptures, keep_captures};
 use std::alloc::Global;
 use thompson_nfa::NFA;
 

@@ -11,7 +11,7 @@ ghost use Rattle.nfa_engines.specs.Engines.{Fits, kind_of};
 ghost use Rattle.nfa_engines.specs.Graphs.{Pair};
 ghost use Rattle.nfa_engines.specs.Overlaps.{HoldsPattern};
 ghost use Rattle.nfa_engines.specs.Paths.{IsFindAnswer, IsSearchAnswer, is_utf8_empty, raised};
-ghost use Rattle.nfa_match_spans.specs.MatchSpanLaws.{AreOneMatch};
+ghost use Rattle.nfa_facts.specs.MatchSpanLaws.{AreOneMatch};
 ghost use Rattle.nfa_compiler.specs.Blocks.{look_of};
 ghost use Rattle.nfa_compiler.specs.Compiled.{AreNamed, IsCompiled, IsNfaOf, res_of};
 ghost use Rattle.nfa_compiler.specs.Written.{MatchesSomewhere, PatternMatches, syntax_of};
@@ -20,7 +20,7 @@ use anyhow::Result;
 use nfa_compiler::{Compiler, Parsed, laws};
 use nfa_engines::pikevm::{Cache, PikeVM};
 use nfa_engines::{Input, Look, Match, MatchKind, NFA, PatternSet, look_matches};
-use nfa_match_spans::laws::{
+use nfa_facts::match_spans::laws::{
     anchored_matches_start_the_span, match_spans_are_written, matches_are_of_paths,
     no_match_is_missed, pikevm_nfa_is_valid,
 };

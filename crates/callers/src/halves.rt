@@ -5,14 +5,14 @@ ghost use Rattle.nfa_engines.specs.Search.{search_of};
 ghost use Rattle.nfa_engines.specs.Items.{end_of};
 ghost use Rattle.nfa_engines.specs.Engines.{Fits, kind_of};
 ghost use Rattle.nfa_engines.specs.Paths.{IsFindAnswer};
-ghost use Rattle.nfa_match_spans.specs.StatePaths.{RecordsMatchSpans};
+ghost use Rattle.nfa_facts.specs.StatePaths.{RecordsMatchSpans};
 ghost use Rattle.nfa_hybrid.specs.HalfLists.{AreHalves};
 
 use nfa_engines::error::SearchError;
 use nfa_engines::iter::laws::half_and_full_agree;
 use nfa_engines::pikevm::{Cache, PikeVM};
 use nfa_engines::{HalfMatch, Input, Match, laws};
-use nfa_match_spans::laws::{half_matches_are_ends, pikevm_nfa_is_valid};
+use nfa_facts::match_spans::laws::{half_matches_are_ends, pikevm_nfa_is_valid};
 use std::alloc::Global;
 
 /// Returns the pattern and the end of a match. They are those of the match that `find` gives, if the NFA records its

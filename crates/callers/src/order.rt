@@ -15,7 +15,7 @@ use nfa_compiler::{Compiler, laws};
 use nfa_engines::laws::first_pattern_is_found;
 use nfa_engines::pikevm::{Cache, PikeVM};
 use nfa_engines::{Anchored, Input, Match};
-use nfa_match_spans::laws::{match_spans_are_written, pikevm_nfa_is_valid};
+use nfa_facts::match_spans::laws::{match_spans_are_written, pikevm_nfa_is_valid};
 use std::alloc::Global;
 
 /// An NFA that was compiled from texts tries their patterns in order: a premise of `places::first_of_patterns`.

@@ -3,12 +3,12 @@ ghost use Rattle.std.specs.Prelude.{◌≡◌, IfOk, true, false};
 ghost use Rattle.regex_search_core.specs.Search.{search_of};
 ghost use Rattle.nfa_engines.specs.Engines.{Fits};
 ghost use Rattle.nfa_engines.specs.Paths.{is_utf8_empty};
-ghost use Rattle.nfa_match_spans.specs.MatchSpanLaws.{MatchesNothing};
+ghost use Rattle.nfa_facts.specs.MatchSpanLaws.{MatchesNothing};
 
 use nfa_engines::Input;
 use nfa_engines::pikevm::{Cache, PikeVM};
-use nfa_match_spans::laws::no_match_is_missed;
-use nfa_match_spans::records_match_spans;
+use nfa_facts::match_spans::laws::no_match_is_missed;
+use nfa_facts::records_match_spans;
 use std::alloc::{AllocError, Global};
 
 /// Whether it is sure that nothing matches: the NFA records its bounds, and there is no match.

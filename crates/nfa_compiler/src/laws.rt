@@ -20,8 +20,8 @@ pub fn assertions_agree()
     ensures { LooksAgree }
 {}
 
-/// `nfa_match_spans::records_match_spans` is true of a compiled NFA: each way through its states, from a start of a
-/// search to a match, writes its start and its end. The laws of `nfa_match_spans` therefore hold for it, and no test is
+/// `nfa_facts::records_match_spans` is true of a compiled NFA: each way through its states, from a start of a search to
+/// a match, writes its start and its end. The laws of `nfa_facts::match_spans` therefore hold for it, and no test is
 /// needed.
 pub fn compiled_nfas_record_bounds()
     ensures patterns { PatternsRecordBounds }

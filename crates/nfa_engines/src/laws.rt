@@ -105,7 +105,7 @@ pub fn one_match()
 
 /// A search has at most one half match: `find_half` of both engines gives the same. Its pattern is that of a search for
 /// slots, so there is a half match exactly if there is a pattern. For an NFA that records its bounds, a law of
-/// `nfa_match_spans` says that it is the end of the match that `find` gives.
+/// `nfa_facts::match_spans` says that it is the end of the match that `find` gives.
 pub fn one_half_match()
     ensures one { AtMostOne IsHalfAnswer }
     ensures pattern { HalfMatchHasThePattern }

@@ -6,8 +6,8 @@ use Rattle.nfa_paths.proofs.FirstStartLemmas.{next-first}
 use Rattle.nfa_engines.specs.Laws.{MatchesNothing}
 use Rattle.nfa_search_base.specs.Common.{end_of}
 use Rattle.nfa_engines.specs.StartLaws.{FirstStartMatches, IsFirstStart, StartsAnywhere, anchored_at}
-use Rattle.nfa_match_spans.specs.MatchSpanLaws.{AnchoredStartsTheSpan, HalfMatchesAreEnds, NoneIsNothing}
-use Rattle.nfa_match_spans.specs.StatePaths.{RecordsMatchSpans}
+use Rattle.nfa_facts.specs.MatchSpanLaws.{AnchoredStartsTheSpan, HalfMatchesAreEnds, NoneIsNothing}
+use Rattle.nfa_facts.specs.StatePaths.{RecordsMatchSpans}
 use Rattle.nfa_meta.specs.Built.{IsRegexOf}
 use Rattle.nfa_meta.specs.RegexState.{KeepsRegex, RegexState}
 

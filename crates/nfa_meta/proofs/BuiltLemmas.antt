@@ -1,8 +1,8 @@
 -- What is true of an NFA is true of it with another line terminator, and with fewer captures.
 use Rattle.nfa_paths.proofs.Common.{◌≡◌, ◌==◌, ℕ, Bool, MatchBool, true, false, subst, sym, Automaton}
 use Rattle.thompson_nfa.specs.Automaton.{nfa_with_terminator}
-use Rattle.nfa_captures.specs.declared.which.WhichCaptures.{WhichCaptures}
-use Rattle.nfa_captures.specs.declared.which.WhichCaptures.TheVariants as which
+use Rattle.nfa_facts.specs.declared.captures.which.WhichCaptures.{WhichCaptures}
+use Rattle.nfa_facts.specs.declared.captures.which.WhichCaptures.TheVariants as which
 use Rattle.nfa_meta.specs.Built.{HasCaptures, HasLines}
 
 pub lines-of : (terminator : ℕ) (Is : Automaton → Type 0) (plain nfa : Automaton) → Is plain

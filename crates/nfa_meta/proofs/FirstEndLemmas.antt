@@ -6,7 +6,7 @@ use Rattle.nfa_engines.specs.StartLaws.{IsFirstStart}
 use Rattle.nfa_lazy_dfa.specs.Windows.{IsWindow, start_in}
 use Rattle.nfa_lazy_dfa.specs.declared.window.Window.{Window}
 use Rattle.nfa_lazy_dfa.proofs.IsMatchLemmas.{found-free}
-use Rattle.nfa_prefix.specs.PrefixLaws.{NothingIsNoAnswer, NothingIsNoMatch}
+use Rattle.nfa_facts.specs.PrefixLaws.{NothingIsNoAnswer, NothingIsNoMatch}
 use Rattle.nfa_meta.specs.Windowed.{IsWindowed}
 use Rattle.nfa_meta.specs.WindowLaws.{WindowsAreFirstStarts}
 use Rattle.nfa_meta.specs.WindowRuns.{HasNoMatch}

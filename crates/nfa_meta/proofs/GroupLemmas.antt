@@ -3,7 +3,7 @@ use Rattle.std.proofs.lemmas.Option.{IfSome_then}
 use Rattle.nfa_paths.proofs.Common.{◌≡◌, ◌<◌, ℕ, Bool, false, List, length, sym, subst, Option, None, Some, IfNone, IfSome, option_map, number_of, Found, PatternID, Search, MatchKind, LeftmostFirst, Automaton, IsAutomaton, IsAnswer, IsFindAnswer}
 use Rattle.nfa_paths.proofs.InsideLemmas.{pattern-within, slots-within}
 use Rattle.nfa_engines.specs.SpanLaws.{cut_to}
-use Rattle.nfa_match_spans.specs.StatePaths.{RecordsMatchSpans}
+use Rattle.nfa_facts.specs.StatePaths.{RecordsMatchSpans}
 use Rattle.nfa_search_base.specs.Common.{Captured}
 use Rattle.nfa_search_base.proofs.SpanLemmas.{spans-inside}
 use Rattle.nfa_choice.specs.Answered.{FillsCaptures, WritesSlots}

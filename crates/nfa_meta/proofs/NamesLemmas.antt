@@ -2,9 +2,9 @@
 use Rattle.nfa_paths.proofs.Common.{◌≡◌, ◌∙◌, ◌==◌, ap, ℕ, Bool, MatchBool, true, false, List, [], ◌∷◌, ◌≤◌, drop, length, Option, None, Some, sym, IsSomeAnd, chars, Automaton}
 use Rattle.nfa_compiler.proofs.CallLemmas.{groups-named}
 use Rattle.nfa_compiler.specs.Written.{syntax_of}
-use Rattle.nfa_captures.specs.Kept.{kept_groups, with_captures}
-use Rattle.nfa_captures.specs.declared.which.WhichCaptures.{WhichCaptures}
-use Rattle.nfa_captures.specs.declared.which.WhichCaptures.TheVariants as which
+use Rattle.nfa_facts.specs.Kept.{kept_groups, with_captures}
+use Rattle.nfa_facts.specs.declared.captures.which.WhichCaptures.{WhichCaptures}
+use Rattle.nfa_facts.specs.declared.captures.which.WhichCaptures.TheVariants as which
 use Rattle.nfa_meta.specs.Built.{HasCaptures, HasLines, IsBuiltFrom, IsCompiledBy, compiler_of}
 use Rattle.nfa_meta.specs.declared.builder.Builder.{Builder}
 use Rattle.thompson_nfa.specs.Automaton.{nfa_with_terminator}

@@ -2,7 +2,7 @@
 use Rattle.nfa_paths.proofs.Common.{false, refl, sym, subst, arith, None, Option, Some, IfNone, IfSome, Search, MatchKind, Automaton, IsBoolAnswer, IsFindAnswer, IsHalfAnswer}
 use Rattle.nfa_engines.specs.Laws.{MatchesNothing, OfSlots}
 use Rattle.nfa_engines.specs.StartLaws.{IsUnbound, StartsArePassed}
-use Rattle.nfa_prefix.specs.PrefixLaws.{NothingIsNoAnswer, NothingIsNoHalfMatch, NothingIsNoMatch, NothingIsNotFound}
+use Rattle.nfa_facts.specs.PrefixLaws.{NothingIsNoAnswer, NothingIsNoHalfMatch, NothingIsNoMatch, NothingIsNotFound}
 use Rattle.nfa_meta.specs.Windowed.{IsRestOf, IsWindowed}
 use Rattle.nfa_meta.specs.WindowRuns.{AnswersAs, HalvesAs, HasNoHalf, HasNoMatch, IsWindowOf}
 

@@ -6,9 +6,9 @@ use Rattle.nfa_paths.specs.Common.{Automaton, IsAutomaton, is_utf8_empty}
 use Rattle.nfa_backtrack.specs.Backtrack.{empty_cache}
 use Rattle.nfa_pikevm.specs.Engines.{cache_for}
 use Rattle.nfa_choice.specs.ChoiceState.{ChoiceState}
-use Rattle.nfa_captures.specs.Kept.{with_captures}
-use Rattle.nfa_captures.specs.declared.which.WhichCaptures.{WhichCaptures}
-use Rattle.nfa_captures.specs.declared.which.WhichCaptures.TheVariants as which
+use Rattle.nfa_facts.specs.Kept.{with_captures}
+use Rattle.nfa_facts.specs.declared.captures.which.WhichCaptures.{WhichCaptures}
+use Rattle.nfa_facts.specs.declared.captures.which.WhichCaptures.TheVariants as which
 use Rattle.nfa_compiler.specs.Compiled.{FindsFromAnyStart, IsBoundAsRead, IsCompiled}
 use Rattle.nfa_compiler.specs.Rejected.{compile_error_text, IsOfOneText, NamesText, TextsFitIn}
 use Rattle.nfa_compiler.specs.Written.{syntax_of, byte_syntax}

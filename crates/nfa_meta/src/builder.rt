@@ -15,10 +15,10 @@ mod texts;
 
 use crate::error::BuildError;
 use crate::regex::Regex;
-use nfa_captures::WhichCaptures;
 use nfa_compiler::{Compiler, Syntax};
 use nfa_engines::backtrack;
 use nfa_engines::error::SearchError;
+use nfa_facts::WhichCaptures;
 use nfa_lazy_dfa::DFA;
 use regex_search_core::MatchKind;
 use std::alloc::Global;

@@ -48,10 +48,9 @@ use match_slots::write_match;
 use nfa_choice::choose::{Choice, Engine};
 use nfa_engines::error::SearchError;
 use nfa_engines::pikevm;
+use nfa_facts::{Literals, records_match_spans};
 use nfa_lazy_dfa::{Cache, DFA};
-use nfa_match_spans::records_match_spans;
 use nfa_onepass::OnePass;
-use nfa_prefix::Literals;
 use regex_search_core::{GroupInfo, HalfMatch, Input, Match, MatchKind, NonMaxUsize, PatternID};
 pub use split_iter::{Split, SplitN};
 use std::alloc::Global;
@@ -110,9 +109,9 @@ impl Model for Regex {
     ghost use Rattle.nfa_lazy_dfa.specs.Configs.{default_clears, kind_of, nfa_of};
     ghost use Rattle.nfa_lazy_dfa.specs.Rows.{IsFor, capacity_of, max_clears_of, memory_of, stops_of};
     ghost use Rattle.nfa_choice.specs.ChoiceState.{kind_in};
-    ghost use Rattle.nfa_match_spans.specs.StatePaths.{RecordsMatchSpans};
+    ghost use Rattle.nfa_facts.specs.StatePaths.{RecordsMatchSpans};
+    ghost use Rattle.nfa_facts.specs.Literals.{AreLiteralsOf};
     ghost use Rattle.thompson_nfa.specs.Automaton.{IsAutomaton};
-    ghost use Rattle.nfa_prefix.specs.Literals.{AreLiteralsOf};
     ghost use Rattle.nfa_onepass.specs.Tables.{IsFor as IsTableFor, limit_of, memory_of as steps_memory_of};
     ghost use Rattle.nfa_meta.specs.RegexState.{RegexState, row_capacity, step_capacity};
 

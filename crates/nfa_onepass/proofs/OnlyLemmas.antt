@@ -3,8 +3,8 @@ use Rattle.nfa_paths.proofs.Common.{◌≡◌, ◌∙◌, ℕ, zero, suc, ◌+�
 use Rattle.nfa_paths.proofs.PathToLemmas.{EndsWith-last}
 use Rattle.nfa_paths.proofs.StartLemmas.{raised-zero}
 use Rattle.nfa_engines.specs.SpanLaws.{SearchMayBeCut, cut_to, same}
-use Rattle.nfa_match_spans.specs.MatchSpanLaws.{AreOneMatch, IsMatchOfPath, MatchesAreOfPaths}
-use Rattle.nfa_match_spans.specs.StatePaths.{RecordsMatchSpans}
+use Rattle.nfa_facts.specs.MatchSpanLaws.{AreOneMatch, IsMatchOfPath, MatchesAreOfPaths}
+use Rattle.nfa_facts.specs.StatePaths.{RecordsMatchSpans}
 use Rattle.nfa_onepass.specs.Ways.{IsOnly, IsTail}
 
 -- the pairs of a state have this state

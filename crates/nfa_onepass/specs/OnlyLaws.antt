@@ -2,7 +2,7 @@
 use Rattle.std.specs.Prelude.{ℕ, false, List, Option, Some}
 use Rattle.nfa_paths.specs.Common.{Automaton, Found, IsAnswer, IsAutomaton, IsFindAnswer, LeftmostFirst, Search}
 use Rattle.nfa_engines.specs.SpanLaws.{cut_to}
-use Rattle.nfa_match_spans.specs.StatePaths.{RecordsMatchSpans}
+use Rattle.nfa_facts.specs.StatePaths.{RecordsMatchSpans}
 use Rattle.nfa_onepass.specs.Ways.{IsOnly}
 
 -- If each path over the span of the match has this pattern and these slots, they are the answer.

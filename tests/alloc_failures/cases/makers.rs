@@ -2,10 +2,10 @@
 
 use super::searches::found;
 use super::{Seen, Wrong, engines, expect, made};
-use nfa_captures::{WhichCaptures, keep_captures};
 use nfa_engines::backtrack::{self, BoundedBacktracker};
 use nfa_engines::error::SearchError;
 use nfa_engines::pikevm::{self, PikeVM};
+use nfa_facts::{WhichCaptures, keep_captures};
 use nfa_samples::sample;
 use regex_search_core::{Captures, GroupInfo, Input, PatternID, Refused};
 use std::alloc::Global;

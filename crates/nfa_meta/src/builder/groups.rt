@@ -1,11 +1,11 @@
 //! The groups that a regex keeps.
 ghost use Rattle.std.specs.Prelude.{◌≡◌, ◌≤◌, IfOk, IsOkUnless, length};
-ghost use Rattle.nfa_captures.specs.Kept.{with_captures};
+ghost use Rattle.nfa_facts.specs.Kept.{with_captures};
 ghost use Rattle.nfa_meta.specs.Built.{HasCaptures};
 
 use crate::builder::{Builder, Config};
 use crate::error::BuildError;
-use nfa_captures::{WhichCaptures, keep_captures};
+use nfa_facts::{WhichCaptures, keep_captures};
 use std::alloc::Global;
 use thompson_nfa::NFA;
 
@@ -15,10 +15,11 @@ impl Config {
     /// With [`WhichCaptures::Implicit`] each pattern has only group 0, as if its other groups were `(?:..)`, and all
     /// matches stay the same. With [`WhichCaptures::None`] there are no groups: `is_match`, half matches, sets of
     /// patterns and the pattern of captures stay the same. But the span of a match is that of group 0, so `find`
-    /// returns `None`, and lists of matches and of captures are empty. The laws of `nfa_captures` say what stays.
+    /// returns `None`, and lists of matches and of captures are empty. The laws of `nfa_facts::captures` say what
+    /// stays.
     ///
     /// The cache of a PikeVM has a row of slots for each state, so fewer groups take less memory. This setting has no
-    /// effect if a regex is made of an NFA: `nfa_captures::keep_captures` does the same there.
+    /// effect if a regex is made of an NFA: `nfa_facts::keep_captures` does the same there.
     ///
     /// ```
     /// let config = Config::new().which_captures(WhichCaptures::Implicit);

@@ -2,7 +2,7 @@
 ghost use Rattle.std.specs.Prelude.{◌≡◌, ◌∷◌, [], IfErr, IfOk, None, Some, drop, map, option_map, slice_get};
 ghost use Rattle.std.specs.Prelude.{string_bytes};
 ghost use Rattle.nfa_paths.specs.Common.{Automaton};
-ghost use Rattle.nfa_captures.specs.Kept.{kept_groups};
+ghost use Rattle.nfa_facts.specs.Kept.{kept_groups};
 ghost use Rattle.nfa_compiler.specs.Compiled.{IsNamed};
 ghost use Rattle.nfa_compiler.specs.Written.{syntax_of};
 ghost use Rattle.nfa_meta.specs.Built.{IsBuiltFrom, IsWhyNotBuilt, compiler_of};

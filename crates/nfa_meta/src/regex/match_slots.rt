@@ -12,7 +12,7 @@ ghost use Rattle.nfa_meta.specs.MatchSlots.{match_slots};
 ghost use Rattle.nfa_meta.specs.WindowRuns.{AnswersAs, HasNoMatch, IsWindowOf, NeedsPart};
 
 use crate::regex::Regex;
-use nfa_prefix::laws::nothing_has_no_answer;
+use nfa_facts::literal::laws::nothing_has_no_answer;
 use regex_search_core::{Captures, Input, Match, NonMaxUsize};
 
 impl Regex {

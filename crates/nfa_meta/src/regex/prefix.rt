@@ -3,15 +3,15 @@ ghost use Rattle.std.specs.Prelude.{IfNone, IfSome};
 ghost use Rattle.regex_search_core.specs.Search.{search_of};
 ghost use Rattle.nfa_engines.specs.Laws.{MatchesNothing};
 ghost use Rattle.nfa_engines.specs.StartLaws.{IsUnbound};
-ghost use Rattle.nfa_prefix.specs.Literals.{AreLiteralsOf};
+ghost use Rattle.nfa_facts.specs.Literals.{AreLiteralsOf};
 ghost use Rattle.nfa_choice.specs.ChoiceState.{kind_in};
 ghost use Rattle.nfa_meta.specs.Windowed.{IsRestOf, IsWindowed};
 ghost use Rattle.nfa_meta.specs.WindowRuns.{AnswersAs, HalvesAs, HasNoHalf, HasNoMatch, IsWindowOf};
 
 use crate::regex::Regex;
 use nfa_engines::laws::starts_may_be_passed;
-use nfa_prefix::Literals;
-use nfa_prefix::laws::nothing_has_no_answer;
+use nfa_facts::Literals;
+use nfa_facts::literal::laws::nothing_has_no_answer;
 use regex_search_core::Input;
 use thompson_nfa::NFA;
 

@@ -8,7 +8,7 @@ ghost use Rattle.nfa_choice.specs.ChoiceState.{kind_in};
 
 use crate::regex::Regex;
 use nfa_engines::laws::first_start_answers;
-use nfa_match_spans::laws::{anchored_matches_start_the_span, half_matches_are_ends};
+use nfa_facts::match_spans::laws::{anchored_matches_start_the_span, half_matches_are_ends};
 use regex_search_core::{Anchored, Input, Match, Span};
 
 impl Regex {

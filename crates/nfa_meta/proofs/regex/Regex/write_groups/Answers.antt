@@ -1,7 +1,7 @@
 -- The slots of the only path over the span of the match are those of the search.
 use Rattle.nfa_paths.proofs.Common.{rules, arith, common_steps, ◌≡◌, ◌∙◌, false, found_of, search_of, LeftmostFirst, IsAutomaton, ap}
 use Rattle.nfa_engines.specs.SpanLaws.{cut_to}
-use Rattle.nfa_match_spans.specs.StatePaths.{RecordsMatchSpans}
+use Rattle.nfa_facts.specs.StatePaths.{RecordsMatchSpans}
 use Rattle.nfa_choice.specs.ChoiceState.{kind_in}
 use Rattle.nfa_meta.proofs.GroupLemmas.{groups-answer, groups-write}
 use Rattle.nfa_meta.specs.RegexState.{RegexState}

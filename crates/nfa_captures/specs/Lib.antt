@@ -1,2 +1,0 @@
-pub mod CapturesLaws
-pub mod Kept

@@ -1,0 +1,15 @@
+pub mod CapturesLaws
+pub mod FewBytes
+pub mod Kept
+pub mod Levels
+pub mod Literals
+pub mod MatchSpanLaws
+pub mod Needles
+pub mod PathStates
+pub mod Prefixes
+pub mod PrefixLaws
+pub mod Reached
+pub mod RequiredBytes
+pub mod RequiredLaws
+pub mod Walks
+pub use Rattle.nfa_paths.specs.StatePaths

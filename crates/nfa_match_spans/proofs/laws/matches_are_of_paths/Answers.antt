@@ -1,6 +1,0 @@
--- A search has one answer, and its path writes its bounds.
-use Rattle.nfa_match_spans.proofs.MatchLemmas.{match-of-path}
-use Rattle.nfa_match_spans.proofs.laws.matches_are_of_paths.Goals as goal
-
-pub returns : goal.returns
-returns c = match-of-path

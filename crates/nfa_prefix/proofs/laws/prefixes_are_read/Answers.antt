@@ -1,6 +1,0 @@
--- Each path takes the moves of the states.
-use Rattle.nfa_prefix.proofs.PrefixLemmas.{prefix-begins}
-use Rattle.nfa_prefix.proofs.laws.prefixes_are_read.Goals as goal
-
-pub returns : goal.returns
-returns c = λ nfa. prefix-begins nfa

@@ -1,6 +1,0 @@
--- Each match has the longest bytes so far.
-use Rattle.nfa_prefix.specs.RequiredBytes.{IsRequired}
-use Rattle.nfa_prefix.proofs.required_bytes.with_neighbours.Given as goal
-
-abbrev pub invariant-loop-index : goal.invariant-loop-index
-invariant-loop-index l = IsRequired l.nfa l.best
