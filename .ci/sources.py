@@ -12,7 +12,7 @@ from typing import NamedTuple
 root = pathlib.Path(__file__).resolve().parent.parent
 
 # Parts of the library, in the order in which the pages show them: a heading, the path that callers name, the crate of
-# the sources, the types, and the functions outside of types.
+# the sources, the types, and the functions outside of types. A path of a module of the crate stands for its items only.
 GROUPS = [
     ('One regex', 'nfa_meta', 'nfa_meta',
      'Regex RegexSet SetMatches Builder Config BuildError FindMatches CapturesMatches HalfMatches Split SplitN '
@@ -22,8 +22,8 @@ GROUPS = [
     ('The backtracker', 'nfa_engines::backtrack', 'nfa_backtrack',
      'BoundedBacktracker Cache Config Builder TryFindMatches TryCapturesMatches', 'min_visited_capacity'),
     ('The engine that chooses', 'nfa_choice', 'nfa_choice', 'Choice Engine ChoiceMatches ChoiceCaptures', ''),
-    ('The engine for ends of matches', 'nfa_hybrid', 'nfa_hybrid', 'Hybrid Engine HalfMatches', ''),
-    ('Items of half matches, for engines', 'nfa_hybrid::half_items', 'nfa_hybrid', '', 'half_span half_item'),
+    ('The engine for ends of matches', 'nfa_choice::hybrid', 'nfa_choice', 'Hybrid Engine HalfMatches', ''),
+    ('Items of half matches, for engines', 'nfa_choice::half_items', 'nfa_choice', '', 'half_span half_item'),
     ('The compiler', 'nfa_compiler', 'nfa_compiler', 'Compiler Config SyntaxError CompileError OnlyPattern',
      'has_empty_loop'),
     ('What is asked and answered', 'nfa_engines', 'regex_search_core',
@@ -41,9 +41,9 @@ GROUPS = [
      'literal_prefix find_prefix'),
     ('Fewer captures', 'nfa_facts::captures', 'nfa_facts', 'WhichCaptures', 'keep_captures'),
     ('The lazy DFA', 'nfa_lazy_dfa', 'nfa_lazy_dfa', 'DFA Cache Config Builder StopError Window', ''),
-    ('Scans by steps, for determinizers', 'nfa_determinize::closure', 'nfa_determinize', '',
+    ('Scans by steps, for determinizers', 'nfa_lazy_dfa::determinize::closure', 'nfa_lazy_dfa', '',
      'closure step pattern_by_kind kept'),
-    ('Half matches by steps', 'nfa_determinize::scan', 'nfa_determinize', '', 'find_half scan_half'),
+    ('Half matches by steps', 'nfa_lazy_dfa::determinize::scan', 'nfa_lazy_dfa', '', 'find_half scan_half'),
     ('What a compiled pattern finds, at the values of a call', 'nfa_compiler::calls', 'nfa_compiler', '',
      'match_of_text is_match_of_text matches_of_text match_in_str is_match_in_str matches_in_str named_group_in_str '
      'named_group_of_text'),
@@ -59,7 +59,7 @@ LAWS = [('nfa_engines::laws', 'nfa_engines'), ('nfa_choice::laws', 'nfa_choice')
         ('nfa_engines::iter::laws', 'nfa_search_base'), ('nfa_facts::match_spans::laws', 'nfa_facts'),
         ('nfa_facts::literal::laws', 'nfa_facts'), ('nfa_facts::captures::laws', 'nfa_facts'),
         ('nfa_onepass::laws', 'nfa_onepass'), ('nfa_compiler::laws', 'nfa_compiler'),
-        ('nfa_determinize::laws', 'nfa_determinize'), ('nfa_meta::laws', 'nfa_meta')]
+        ('nfa_lazy_dfa::determinize::laws', 'nfa_lazy_dfa'), ('nfa_meta::laws', 'nfa_meta')]
 
 
 def kept(read):
@@ -126,10 +126,10 @@ class Sources:
         """The pages of the library, for users and for those who change it."""
         return self.files(r'(docs/)?[^/]+\.md')
 
-    def items(self, crate):
-        """The public items of a crate, those of the main files first."""
+    def items(self, files):
+        """The public items of these files, those of the main files first."""
         main = {'engine.rt', 'search.rt', 'choose.rt', 'hybrid.rt', 'compiler.rt', 'nfa.rt', 'regex.rt'}
-        files = sorted(self.code(crate), key=lambda it: it.split('/')[-1] not in main)
+        files = sorted(files, key=lambda it: it.split('/')[-1] not in main)
         return [item for file in files for item in items(self.text(file))]
 
     def laws(self, path, crate):
@@ -216,9 +216,26 @@ def items(text):
             yield Item(at['kind'], None, at['name'], comment(at['said']), rest[:head.start()].strip(), [], [], parts)
 
 
-def group(sources, crate, types, functions):
+def module(path, crate):
+    """The module of the crate that this path names, as its files have it, or nothing if it names none."""
+    return path.removeprefix(f'{crate}::').replace('::', '/') if path.startswith(f'{crate}::') else ''
+
+
+def files_of(sources, path, crate):
+    """The files of a group: those of its module, or those of the crate that are in no other group's module."""
+    of = module(path, crate)
+    others = [it for _, other, home, *_ in GROUPS if home == crate and (it := module(other, home)) and not of]
+
+    def are_in(file, name):
+        return re.match(rf'crates/{crate}/src/{name}[./]', file)
+
+    return [file for file in sources.code(crate)
+            if (not of or are_in(file, of)) and not any(are_in(file, it) for it in others)]
+
+
+def group(sources, path, crate, types, functions):
     """Yields the name of each type of a group, or none, with the item of the type and its functions."""
-    found = sources.items(crate)
+    found = sources.items(files_of(sources, path, crate))
     for owner in [*types.split(), None]:
         calls = [it for it in found if it.kind == 'fn' and it.owner == owner
                  and (owner or it.name in functions.split())]

@@ -2,9 +2,9 @@
 //! needs still more rows, it gives up, and a hybrid then runs the PikeVM.
 
 use super::pair::Pair;
+use nfa_choice::dfa::{Cache, Config, DFA, StopError};
 use nfa_compiler::Compiler;
 use nfa_engines::Input;
-use nfa_hybrid::dfa::{Cache, Config, DFA, StopError};
 use std::test::Fail;
 use test_support::TestRuntime;
 

@@ -1,9 +1,9 @@
 //! Haystacks of two million bytes: with one match at the end, with none, and with one in each hundred bytes.
 
+use nfa_choice::dfa::Config;
+use nfa_choice::hybrid::{Engine, Hybrid};
 use nfa_compiler::Compiler;
 use nfa_engines::Input;
-use nfa_hybrid::dfa::Config;
-use nfa_hybrid::{Engine, Hybrid};
 use std::alloc::{AllocError, Global};
 use std::test::Fail;
 use test_support::TestRuntime;

@@ -1,9 +1,10 @@
 //! A hybrid and a PikeVM over one NFA, which have to give the same answers.
 
+use nfa_choice::dfa;
+use nfa_choice::hybrid::{Engine, Hybrid};
 use nfa_engines::iter::Searcher;
 use nfa_engines::pikevm::{self, PikeVM};
 use nfa_engines::{Input, NFA, PatternSet};
-use nfa_hybrid::{Engine, Hybrid, dfa};
 use test_support::TestRuntime;
 use test_support::engines::fitting;
 use test_support::searches::searches_of;

@@ -1,9 +1,9 @@
 //! A hybrid over compiled patterns: assertions of Unicode words, and patterns with more rows than a cache has room for.
 
 use super::pair::Pair;
+use nfa_choice::dfa::Config;
 use nfa_compiler::Compiler;
 use nfa_engines::{Input, MatchKind};
-use nfa_hybrid::dfa::Config;
 use std::alloc::{AllocError, Global};
 use std::test::Fail;
 

@@ -1,8 +1,8 @@
 //! A hybrid over random NFAs, from fixed seeds.
 
 use super::pair::Pair;
+use nfa_choice::dfa::Config;
 use nfa_engines::MatchKind;
-use nfa_hybrid::dfa::Config;
 use test_support::TestRuntime;
 use test_support::random::{Chance, random_nfa};
 

@@ -1,8 +1,8 @@
 //! The rows that a lazy DFA makes: each once, and none in a second search of the same haystack.
 
+use nfa_choice::dfa::{Cache, DFA, StopError};
 use nfa_compiler::Compiler;
 use nfa_engines::Input;
-use nfa_hybrid::dfa::{Cache, DFA, StopError};
 use std::test::Fail;
 
 // The most bytes of a row, if it has few states.

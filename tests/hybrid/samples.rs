@@ -2,8 +2,8 @@
 //! several sizes, some too small for one row.
 
 use super::pair::Pair;
+use nfa_choice::dfa::Config;
 use nfa_engines::{MatchKind, NFA};
-use nfa_hybrid::dfa::Config;
 use test_support::TestRuntime;
 use test_support::samples::{NAMES, nfa_named};
 

@@ -1,9 +1,9 @@
 //! Sets of patterns of a hybrid and of a PikeVM over the samples, for both match kinds, and which engine made them.
 
 use super::pair::Pair;
+use nfa_choice::dfa::Config;
 use nfa_compiler::Compiler;
 use nfa_engines::{Input, MatchKind};
-use nfa_hybrid::dfa::Config;
 use std::test::Fail;
 use test_support::samples::{NAMES, nfa_named};
 use test_support::searches::searches_of;

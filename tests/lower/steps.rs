@@ -1,6 +1,6 @@
 //! Half matches by steps over lists of states, compared with those of the samples.
 use super::fixtures::named;
-use nfa_determinize::scan::find_half;
+use nfa_lazy_dfa::determinize::scan::find_half;
 use nfa_samples::answers::HALVES;
 use regex_search_core::MatchKind::{All, LeftmostFirst};
 use regex_search_core::{Anchored, Input, MatchKind};

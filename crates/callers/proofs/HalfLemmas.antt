@@ -13,7 +13,7 @@ use Rattle.nfa_facts.specs.MatchSpanLaws.{HalfMatchesAreEnds}
 use Rattle.nfa_facts.specs.StatePaths.{RecordsMatchSpans}
 use Rattle.nfa_search_base.proofs.ListLemmas.{as_items, items-greedy, last-unique, match-lies, matches_in-as_items}
 use Rattle.nfa_search_base.proofs.IterStateLemmas.{IsOrdered}
-use Rattle.nfa_hybrid.specs.HalfLists.{AnswersHalf, AreHalves}
+use Rattle.nfa_choice.specs.HalfLists.{AnswersHalf, AreHalves}
 
 -- the ends of matches as items
 ends-in : (ms : List Found) → matches_in (map (item_by end_of) (as_items ms)) ≡ map end_of ms

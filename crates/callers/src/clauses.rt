@@ -22,7 +22,7 @@ ghost use Rattle.nfa_engines.specs.WithCaptures.{row_of};
 ghost use Rattle.nfa_choice.specs.Iterations.{choice_captures_next};
 ghost use Rattle.nfa_choice.specs.ChoiceState.{kind_in};
 ghost use Rattle.nfa_choice.specs.declared.choose.Engine.TheVariants as engine;
-ghost use Rattle.nfa_hybrid.specs.HalfRuns.{HalvesAre, HalvesFirst, HalvesNext, HalvesRise, HalvesRun};
+ghost use Rattle.nfa_choice.specs.HalfRuns.{HalvesAre, HalvesFirst, HalvesNext, HalvesRise, HalvesRun};
 ghost use Rattle.nfa_meta.specs.CapturesMatches.{captures_next};
 ghost use Rattle.nfa_meta.specs.Halves.{halves_next};
 

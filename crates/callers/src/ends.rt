@@ -1,9 +1,9 @@
 //! What a hybrid finds: where matches end.
 ghost use Rattle.std.specs.Prelude.{◌≡◌};
-ghost use Rattle.nfa_hybrid.specs.HybridState.{KeepsHybrid};
+ghost use Rattle.nfa_choice.specs.HybridState.{KeepsHybrid};
 
+use nfa_choice::hybrid::Hybrid;
 use nfa_engines::Input;
-use nfa_hybrid::Hybrid;
 
 /// The text up to the end of its first match.
 pub fn up_to_match<'t>(hybrid: &mut Hybrid, text: &'t [u8]) -> Option<&'t [u8]> {

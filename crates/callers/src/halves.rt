@@ -6,7 +6,7 @@ ghost use Rattle.nfa_engines.specs.Items.{end_of};
 ghost use Rattle.nfa_engines.specs.Engines.{Fits, kind_of};
 ghost use Rattle.nfa_engines.specs.Paths.{IsFindAnswer};
 ghost use Rattle.nfa_facts.specs.StatePaths.{RecordsMatchSpans};
-ghost use Rattle.nfa_hybrid.specs.HalfLists.{AreHalves};
+ghost use Rattle.nfa_choice.specs.HalfLists.{AreHalves};
 
 use nfa_engines::error::SearchError;
 use nfa_engines::iter::laws::half_and_full_agree;

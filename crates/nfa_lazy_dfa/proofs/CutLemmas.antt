@@ -1,6 +1,6 @@
 -- Bytes that are treated alike lead to the same row.
 use Rattle.nfa_paths.proofs.Common.{inl, ◌≡◌, ℕ, suc, ◌+◌, ◌<◌, ◌&&◌, Bool, List, [], ◌∷◌, ◌++◌, length, get_or, refl, ap, sym, ◌∙◌, subst, arith, Option, Some, option_to_list, slice_get, MatchKind, Automaton, In, first_target, holds_byte, node_at, target_on, Transition}
-use Rattle.nfa_determinize.specs.Closures.{kept, pattern_by_kind, step}
+use Rattle.nfa_lazy_dfa.specs.Closures.{kept, pattern_by_kind, step}
 use Rattle.nfa_lazy_dfa.specs.Assertions.{HasNoLook, sees}
 use Rattle.nfa_lazy_dfa.specs.Cuts.{IsAlike}
 use Rattle.nfa_lazy_dfa.specs.Rows.{LeadsTo, stances_of}

@@ -1,6 +1,6 @@
 -- A scan over a known cell that ends it.
 use Rattle.nfa_paths.proofs.Common.{cases_lt, ◌≡◌, ℕ, ◌+◌, ◌/◌, ◌%◌, ◌<◌, ◌≤◌, ◌⊎◌, inl, inr, Bool, true, false, get_or, length, refl, ap, sym, ◌∙◌, arith, Option, None, Some, is_some, option_map, HalfFound, half_found_of, HalfMatch, Search, half_at}
-use Rattle.nfa_determinize.specs.Configurations.{found_after}
+use Rattle.nfa_lazy_dfa.specs.Configurations.{found_after}
 use Rattle.nfa_lazy_dfa.specs.Places.{IsFoundAt, IsNextPlace}
 use Rattle.nfa_lazy_dfa.specs.Rows.{IsAt, IsRowOf, Leads, row_of, stances_of}
 use Rattle.nfa_lazy_dfa.specs.Stances.{Stance}

@@ -3,7 +3,7 @@ use Rattle.nfa_paths.proofs.Common.{◌≡◌, ℕ, ◌+◌, ◌-◌, ◌<◌, �
 use Rattle.regex_search_core.specs.declared.search.MatchKind.TheVariants.{All}
 use Rattle.nfa_paths.proofs.PathToLemmas.{IsLeastEnd-unique}
 use Rattle.nfa_paths.proofs.SetLemmas.{full-holds}
-use Rattle.nfa_determinize.proofs.PositionLemmas.{ends-there}
+use Rattle.nfa_lazy_dfa.proofs.PositionLemmas.{ends-there}
 use Rattle.nfa_lazy_dfa.specs.Sets.{AddsHere, IsPartOfOverlap}
 use Rattle.nfa_lazy_dfa.specs.Stances.{patterns_in}
 use Rattle.nfa_lazy_dfa.proofs.ReachLemmas.{Quiet, ReachedSoFar, all_found, here_at, quiet-between, reached-begin, reached-end, reached-later, reached-now, reached-quiet, reached-sound, reached-step}

@@ -1,7 +1,7 @@
 -- The patterns that a row keeps are those of the matches in the closure of the scan.
 use Rattle.nfa_paths.proofs.Common.{◌≡◌, ℕ, ◌+◌, ◌-◌, ◌<◌, Bool, ◌≤◌, false, true, ap, get_or, length, map, sym, ◌∙◌, subst, option_map, slice_get, half_found_of, number_of, Search, MatchKind}
 use Rattle.regex_search_core.specs.declared.search.MatchKind.TheVariants.{All}
-use Rattle.nfa_determinize.specs.Configurations.{closure_at, position_count, scan_half, scanned}
+use Rattle.nfa_lazy_dfa.specs.Configurations.{closure_at, position_count, scan_half, scanned}
 use Rattle.nfa_lazy_dfa.specs.Assertions.{IsRead}
 use Rattle.nfa_lazy_dfa.specs.Places.{IsFoundAt, IsNextPlace}
 use Rattle.nfa_lazy_dfa.specs.Rows.{IsAt, IsRowOf, LeadsTo, stances_of}

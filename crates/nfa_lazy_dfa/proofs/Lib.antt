@@ -1,3 +1,17 @@
+pub mod ExploreLemmas
+pub mod FollowLemmas
+pub mod NextLemmas
+pub mod StepLemmas
+pub mod MatchLemmas
+pub mod SettledLemmas
+pub mod PositionLemmas
+pub mod LastScanLemmas
+pub mod FirstScanLemmas
+pub mod AnswerLemmas
+pub mod SearchLemmas
+pub mod ClosureLemmas
+pub mod ScanHalfLemmas
+pub mod IdleLemmas
 pub mod AssertionLemmas
 pub mod StanceLemmas
 pub mod HeldLemmas

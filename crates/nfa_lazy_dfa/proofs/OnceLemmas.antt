@@ -1,8 +1,8 @@
 -- A list of states without those that it has further left: the same closures.
 use Rattle.nfa_paths.proofs.Common.{ℕ_discrete, ◌≡◌, ℕ, ◌+◌, ◌<◌, inl, inr, Bool, true, false, List, [], ◌∷◌, ◌++◌, length, get_or, set, drop, replicate, refl, ap, sym, ◌∙◌, arith, append_assoc, get_or-set_other, length-append, length-set, drop_more, get_or-replicate, length-replicate, Automaton, In, Holding}
-use Rattle.nfa_determinize.specs.Closures.{closure}
-use Rattle.nfa_determinize.proofs.ExploreLemmas.{unseen, unseen-all, unseen-set}
-use Rattle.nfa_determinize.proofs.ClosureLemmas.{closure-repeat}
+use Rattle.nfa_lazy_dfa.specs.Closures.{closure}
+use Rattle.nfa_lazy_dfa.proofs.ExploreLemmas.{unseen, unseen-all, unseen-set}
+use Rattle.nfa_lazy_dfa.proofs.ClosureLemmas.{closure-repeat}
 
 In-last : (s : ℕ) (before : List ℕ) → In s (before ++ s ∷ [])
 In-last s [] = inl refl

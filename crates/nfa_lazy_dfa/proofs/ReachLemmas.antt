@@ -4,12 +4,12 @@ use Rattle.nfa_paths.proofs.MemberLemmas.{In-append_right}
 use Rattle.nfa_paths.proofs.SetLemmas.{IsReached-along, IsReached-at, ReachedBefore-start}
 use Rattle.nfa_paths.proofs.ScanAnswerLemmas.{starts-from}
 use Rattle.nfa_paths.proofs.Common.{◌≡◌, ℕ, zero, suc, ◌+◌, ◌-◌, ◌<◌, ◌≤◌, ◌⊎◌, ◌↔◌, inl, inr, Bool, false, List, [], ◌∷◌, ◌++◌, map, refl, ap, sym, ◌∙◌, subst, arith, Option, None, Some, is_some, option_map, option_to_list, option_or, cases_lt, HalfFound, Search, MatchKind, Automaton, Pair, In, WantedAt, Slots, HoldsMatch, IsFrontier, IsReached, WantedBefore, is_resting, IsPatternOf, IsPermitted, IsPermittedEnd, pattern_at, edges, is_match, starts, LeftmostFirst, half_at}
-use Rattle.nfa_determinize.specs.Closures.{last_pattern, pattern_by_kind, state_pattern}
-use Rattle.nfa_determinize.specs.Configurations.{Configuration, begin, closure_at, scanned}
-use Rattle.nfa_determinize.proofs.FollowLemmas.{bare, place}
-use Rattle.nfa_determinize.proofs.NextLemmas.{place-among}
-use Rattle.nfa_determinize.proofs.PositionLemmas.{AllScan, AllScan-next, Finding-begin, ends-there, front, shape, turns_here}
-use Rattle.nfa_determinize.proofs.SettledLemmas.{scanned-next}
+use Rattle.nfa_lazy_dfa.specs.Closures.{last_pattern, pattern_by_kind, state_pattern}
+use Rattle.nfa_lazy_dfa.specs.Configurations.{Configuration, begin, closure_at, scanned}
+use Rattle.nfa_lazy_dfa.proofs.FollowLemmas.{bare, place}
+use Rattle.nfa_lazy_dfa.proofs.NextLemmas.{place-among}
+use Rattle.nfa_lazy_dfa.proofs.PositionLemmas.{AllScan, AllScan-next, Finding-begin, ends-there, front, shape, turns_here}
+use Rattle.nfa_lazy_dfa.proofs.SettledLemmas.{scanned-next}
 use Rattle.nfa_lazy_dfa.specs.Stances.{patterns_for, patterns_in}
 
 -- an element of a list is one of it after a map

@@ -1,6 +1,6 @@
 -- Which bytes the parts of a scan have counted, one after the other.
 use Rattle.nfa_paths.proofs.Common.{◌≡◌, ℕ, ◌+◌, ◌-◌, ◌≤◌, inl, inr, Bool, false, length, refl, sym, subst, arith, Search, starts}
-use Rattle.nfa_determinize.specs.Configurations.{IsDead, scanned}
+use Rattle.nfa_lazy_dfa.specs.Configurations.{IsDead, scanned}
 use Rattle.nfa_lazy_dfa.specs.Reads.{HasRead, HasReadSpan, IsOver}
 use Rattle.nfa_lazy_dfa.specs.Rows.{steps_of}
 use Rattle.nfa_lazy_dfa.specs.declared.cache.Cache.{Cache}

@@ -1,6 +1,6 @@
 -- A scan over cells that are known.
 use Rattle.nfa_paths.proofs.Common.{◌≡◌, ℕ, ◌+◌, ◌*◌, ◌/◌, ◌%◌, ◌<◌, ◌≤◌, ◌-◌, Bool, true, false, List, get_or, length, refl, ap, sym, ◌∙◌, subst, arith, Option, None, Some, is_some, option_map, slice_get, HalfFound, half_found_of, HalfMatch, Search, half_at}
-use Rattle.nfa_determinize.specs.Configurations.{found_after}
+use Rattle.nfa_lazy_dfa.specs.Configurations.{found_after}
 use Rattle.nfa_lazy_dfa.specs.Places.{IsFoundAt, IsMatchedAt}
 use Rattle.nfa_lazy_dfa.specs.Runs.{place_at}
 use Rattle.nfa_lazy_dfa.specs.Rows.{IsAt, IsFor, IsRowOf, Leads, LeadsTo, row_of, stances_of}

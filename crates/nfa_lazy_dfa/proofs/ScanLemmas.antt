@@ -1,10 +1,10 @@
 -- The loop of a scan over the rows of a cache.
 use Rattle.nfa_paths.proofs.Common.{◌≡◌, ℕ, zero, suc, ◌+◌, ◌-◌, ◌<◌, ◌≤◌, inl, Bool, true, false, [], ◌∷◌, length, get_or, refl, ap, sym, ◌∙◌, subst, arith, Option, None, Some, is_some, if◌then◌else◌, option_map, slice_get, option_or, option_map_or, lt-ltb, slice_get-get_or, HalfFound, half_found_of, HalfMatch, Search, byte_at, pairs_from, start_count, start_state, starts, byte_before, half_at}
-use Rattle.nfa_determinize.specs.Closures.{pattern_by_kind}
-use Rattle.nfa_determinize.specs.Configurations.{Configuration, IsDead, begin, closure_at, found_after, position_count, scanned, scan_half, start_here}
-use Rattle.nfa_determinize.proofs.ScanHalfLemmas.{length-starts}
-use Rattle.nfa_determinize.proofs.SettledLemmas.{settled-found}
-use Rattle.nfa_determinize.proofs.SettledLemmas.{scanned-next}
+use Rattle.nfa_lazy_dfa.specs.Closures.{pattern_by_kind}
+use Rattle.nfa_lazy_dfa.specs.Configurations.{Configuration, IsDead, begin, closure_at, found_after, position_count, scanned, scan_half, start_here}
+use Rattle.nfa_lazy_dfa.proofs.ScanHalfLemmas.{length-starts}
+use Rattle.nfa_lazy_dfa.proofs.SettledLemmas.{settled-found}
+use Rattle.nfa_lazy_dfa.proofs.SettledLemmas.{scanned-next}
 use Rattle.nfa_lazy_dfa.specs.Places.{IsFoundAt, IsNextPlace}
 use Rattle.nfa_lazy_dfa.specs.declared.scan.Place.{Place}
 use Rattle.nfa_lazy_dfa.specs.Rows.{IsAt, IsRowOf, LeadsTo, stances_of}

@@ -1,9 +1,9 @@
 -- A row stands for the configuration of a scan, and the row that a byte leads to for the next one.
 use Rattle.nfa_paths.proofs.Common.{◌≡◌, ℕ, zero, suc, ◌+◌, ◌-◌, ◌<◌, inl, inr, Bool, true, false, List, [], ◌∷◌, ◌++◌, get_or, set, replicate, length, refl, ap, sym, ◌∙◌, subst, arith, Option, None, Some, is_some, ◌&&◌, if◌then◌else◌, option_to_list, slice_get, cases_Bool, lt-ltb, Search, MatchKind, Automaton, Node, In, rests, byte_at, node_at, start_state, LeftmostFirst, Look, Holding, epsilon_states, holding_at, byte_before, slice_get_within}
 use Rattle.regex_search_core.specs.declared.search.MatchKind.TheVariants.{All}
-use Rattle.nfa_determinize.specs.Closures.{closure, explore, kept, pattern_by_kind, step}
-use Rattle.nfa_determinize.specs.Configurations.{Configuration, IsDead, advance, closure_at, start_here, starts_after}
-use Rattle.nfa_determinize.proofs.ExploreLemmas.{explore-none}
+use Rattle.nfa_lazy_dfa.specs.Closures.{closure, explore, kept, pattern_by_kind, step}
+use Rattle.nfa_lazy_dfa.specs.Configurations.{Configuration, IsDead, advance, closure_at, start_here, starts_after}
+use Rattle.nfa_lazy_dfa.proofs.ExploreLemmas.{explore-none}
 use Rattle.nfa_lazy_dfa.specs.Assertions.{IsRead, SameLooks, sees}
 use Rattle.nfa_lazy_dfa.specs.Stances.{Covers, IsNext, StandsFor, Stance, goes_on, here, hit_here, start_if}
 use Rattle.nfa_lazy_dfa.proofs.AssertionLemmas.{same-at}

@@ -2,9 +2,9 @@
 use Rattle.nfa_paths.proofs.Common.{◌≡◌, ℕ, zero, suc, ◌+◌, ◌-◌, ◌*◌, ◌/◌, ◌%◌, ◌≤◌, inl, inr, Bool, List, [], ◌∷◌, refl, ap, sym, ◌∙◌, subst, arith, Result, Ok, Err, IfOk, IfSome, Option, None, Some, option_and_then, option_map, option_to_list, slice_get, half_found_of, HalfFound, Search, MatchKind, Automaton, In, IsHalfAnswer, byte_at, node_at, target_on, HalfMatch, holding_at}
 use Rattle.nfa_paths.proofs.InsideLemmas.{half-within}
 use Rattle.nfa_paths.proofs.MemberLemmas.{In-append}
-use Rattle.nfa_determinize.specs.Closures.{closure, explore, kept, step}
-use Rattle.nfa_determinize.specs.Configurations.{closure_at, scan_half, scanned, StartsFrom}
-use Rattle.nfa_determinize.proofs.IdleLemmas.{StartsFrom-start, half-after, idle-passes}
+use Rattle.nfa_lazy_dfa.specs.Closures.{closure, explore, kept, step}
+use Rattle.nfa_lazy_dfa.specs.Configurations.{closure_at, scan_half, scanned, StartsFrom}
+use Rattle.nfa_lazy_dfa.proofs.IdleLemmas.{StartsFrom-start, half-after, idle-passes}
 use Rattle.nfa_lazy_dfa.specs.Apart.{IsStartApart}
 use Rattle.nfa_lazy_dfa.specs.Places.{IsFoundAt}
 use Rattle.nfa_lazy_dfa.specs.Rows.{IsAt, IsRowOf, stances_of}

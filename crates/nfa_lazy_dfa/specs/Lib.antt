@@ -1,3 +1,5 @@
+pub mod Closures
+pub mod Configurations
 pub mod Options
 pub mod Configs
 pub mod Limits
@@ -16,8 +18,9 @@ pub mod Watches
 pub mod Windows
 pub mod Stops
 pub mod Finders
-pub use Rattle.nfa_determinize.specs.Configurations
+pub use Rattle.nfa_paths.specs.Graphs
 pub use Rattle.nfa_paths.specs.Paths
 pub use Rattle.regex_search_core.specs.Found
 pub use Rattle.regex_search_core.specs.Search
 pub use Rattle.thompson_nfa.specs.Automaton
+pub use Rattle.thompson_nfa.specs.Looks

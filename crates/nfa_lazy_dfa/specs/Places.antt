@@ -1,7 +1,7 @@
 -- Where a scan is, and what it found so far.
 use Rattle.std.specs.Prelude.{◌≡◌, ℕ, ◌-◌, ◌/◌, ◌<◌, Bool, false, true, [], ◌∷◌, None, option_map, slice_index}
 use Rattle.nfa_paths.specs.Common.{half_found_of, Search, half_at}
-use Rattle.nfa_determinize.specs.Configurations.{IsSettled, scanned}
+use Rattle.nfa_lazy_dfa.specs.Configurations.{IsSettled, scanned}
 use Rattle.nfa_lazy_dfa.specs.Rows.{IsAt, IsRowOf, Leads, stances_of}
 use Rattle.nfa_lazy_dfa.specs.Stances.{Stance}
 use Rattle.nfa_lazy_dfa.specs.declared.cache.Cache.{Cache}

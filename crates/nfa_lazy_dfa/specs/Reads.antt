@@ -1,7 +1,7 @@
 -- Which bytes a scan has counted.
 use Rattle.std.specs.Prelude.{◌≡◌, ℕ, ◌+◌, ◌-◌, ◌≤◌, ◌⊎◌, Bool, true, false, List, length}
 use Rattle.nfa_paths.specs.Common.{size_of_set, Search, HoldsPattern}
-use Rattle.nfa_determinize.specs.Configurations.{IsSettled, scanned}
+use Rattle.nfa_lazy_dfa.specs.Configurations.{IsSettled, scanned}
 use Rattle.nfa_lazy_dfa.specs.Configs.{kind_of, nfa_of}
 use Rattle.nfa_lazy_dfa.specs.Rows.{steps_of}
 use Rattle.nfa_lazy_dfa.specs.declared.cache.Cache.{Cache}

@@ -1,7 +1,7 @@
 -- The rows of a cache, and what each cell says.
 use Rattle.std.specs.Prelude.{◌≡◌, ℕ, ◌+◌, ◌-◌, ◌*◌, ◌/◌, ◌%◌, ◌<◌, ◌≤◌, ◌≢◌, List, [], ◌∷◌, All, length, map, replicate, Option, None, Some, is_some, option_map, slice_get, slice_index_or, true}
 use Rattle.nfa_paths.specs.Common.{sum_by, number_of, Search, PatternID, MatchKind, Automaton}
-use Rattle.nfa_determinize.specs.Configurations.{scanned}
+use Rattle.nfa_lazy_dfa.specs.Configurations.{scanned}
 use Rattle.nfa_lazy_dfa.specs.Firsts.{AreFirsts}
 use Rattle.nfa_lazy_dfa.specs.Stances.{Stance, IsNext, StandsFor, hit_here, stance_of}
 use Rattle.nfa_lazy_dfa.specs.declared.cache.Cache.{Cache}

@@ -2,8 +2,8 @@
 use Rattle.std.specs.Prelude.{◌≡◌, ℕ, ◌-◌, Bool, true, not, ◌&&◌, List, [], ◌∷◌, ◌++◌, Option, None, Some, is_some, map, option_map, slice_get, if◌then◌else◌}
 use Rattle.regex_search_core.specs.declared.search.MatchKind.TheVariants.{All}
 use Rattle.nfa_paths.specs.Common.{option_to_list, number_of, Search, MatchKind, Automaton, In, start_state, LeftmostFirst, Holding, holding_at}
-use Rattle.nfa_determinize.specs.Closures.{closure, kept, pattern_by_kind, state_pattern, step}
-use Rattle.nfa_determinize.specs.Configurations.{Configuration, start_here}
+use Rattle.nfa_lazy_dfa.specs.Closures.{closure, kept, pattern_by_kind, state_pattern, step}
+use Rattle.nfa_lazy_dfa.specs.Configurations.{Configuration, start_here}
 use Rattle.nfa_lazy_dfa.specs.Assertions.{IsRead, SameLooks, sees}
 use Rattle.nfa_lazy_dfa.specs.declared.follow.Stand.{Stand}
 

@@ -1,7 +1,7 @@
 -- A scan that found nothing yet, and the last position at which no path of an earlier start was left.
 use Rattle.std.specs.Prelude.{◌≡◌, ℕ, ◌%◌, ◌/◌, ◌≤◌, [], ◌∷◌, None}
 use Rattle.nfa_paths.specs.Common.{Search, Automaton}
-use Rattle.nfa_determinize.specs.Configurations.{StartsFrom}
+use Rattle.nfa_lazy_dfa.specs.Configurations.{StartsFrom}
 use Rattle.nfa_lazy_dfa.specs.Places.{IsFoundAt}
 use Rattle.nfa_lazy_dfa.specs.Rows.{IsRowOf}
 use Rattle.nfa_lazy_dfa.specs.Runs.{place_at}

@@ -1,7 +1,7 @@
 -- Where a match is, as a lazy DFA knows it: its end, and a position at or before its start.
 use Rattle.std.specs.Prelude.{ℕ, ◌≤◌}
 use Rattle.nfa_paths.specs.Common.{HalfFound, half_found_of, Search, Automaton}
-use Rattle.nfa_determinize.specs.Configurations.{StartsFrom}
+use Rattle.nfa_lazy_dfa.specs.Configurations.{StartsFrom}
 use Rattle.nfa_lazy_dfa.specs.declared.window.Window.{Window}
 
 -- the half match of a window

@@ -3,7 +3,7 @@ ghost use Rattle.std.specs.Prelude.{◌≡◌, ◌<◌, ◌≤◌, IfSome, None,
 ghost use Rattle.regex_search_core.specs.Found.{half_found_of};
 ghost use Rattle.regex_search_core.specs.PatternSets.{number_of};
 ghost use Rattle.regex_search_core.specs.Search.{search_of};
-ghost use Rattle.nfa_determinize.specs.Configurations.{scan_half};
+ghost use Rattle.nfa_lazy_dfa.specs.Configurations.{scan_half};
 ghost use Rattle.nfa_lazy_dfa.specs.Assertions.{IsRead};
 ghost use Rattle.nfa_lazy_dfa.specs.Places.{IsFoundAt};
 ghost use Rattle.nfa_lazy_dfa.specs.Rows.{IsAt, IsFor, IsRowOf};

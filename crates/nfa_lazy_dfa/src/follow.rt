@@ -11,9 +11,9 @@ ghost use Rattle.nfa_lazy_dfa.specs.Rows as rows;
 ghost use Rattle.nfa_lazy_dfa.specs.Stances.{Covers, IsNext, goes_on, here, hit_here, hits_here, patterns_for};
 ghost use Rattle.nfa_lazy_dfa.specs.Stances.{patterns_in, stance_of};
 
+use crate::determinize::closure::{closure, kept, pattern_by_kind, step};
+use crate::determinize::laws;
 use crate::dfa::DFA;
-use nfa_determinize::closure::{closure, kept, pattern_by_kind, step};
-use nfa_determinize::laws;
 use nfa_scan_core::marks::{none_seen, see};
 use regex_search_core::{MatchKind, PatternID, StateID};
 use std::alloc::{AllocError, Global};

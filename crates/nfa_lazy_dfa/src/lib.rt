@@ -7,6 +7,7 @@ mod cache;
 mod caches;
 mod config;
 mod cuts;
+pub mod determinize;
 mod dfa;
 mod direct;
 mod ends;

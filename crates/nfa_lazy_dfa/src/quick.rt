@@ -4,17 +4,17 @@ ghost use Rattle.regex_search_core.specs.Boundary.{IsBoundary};
 ghost use Rattle.regex_search_core.specs.Found.{half_found_of};
 ghost use Rattle.regex_search_core.specs.Search.{is_anchored, search_of};
 ghost use Rattle.nfa_paths.specs.Paths.{IsHalfAnswer, is_utf8_empty};
-ghost use Rattle.nfa_determinize.specs.Configurations.{scan_half};
+ghost use Rattle.nfa_lazy_dfa.specs.Configurations.{scan_half};
 ghost use Rattle.nfa_lazy_dfa.specs.Configs.{kind_of, nfa_of};
 ghost use Rattle.nfa_lazy_dfa.specs.Places.{IsFoundAt};
 ghost use Rattle.nfa_lazy_dfa.specs.Rows.{IsFor};
 
 use crate::cache::Cache;
+use crate::determinize::laws;
 use crate::dfa::DFA;
 use crate::direct::{direct, run_on_by_byte};
 use crate::ends::found_last;
 use crate::scan::{Place, may_start_later, seen_before};
-use nfa_determinize::laws;
 use nfa_scan_core::starts::start_state;
 use regex_search_core::{HalfMatch, Input};
 

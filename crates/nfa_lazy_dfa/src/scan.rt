@@ -6,7 +6,7 @@ ghost use Rattle.regex_search_core.specs.Found.{half_found_of, half_at};
 ghost use Rattle.regex_search_core.specs.PatternSets.{number_of};
 ghost use Rattle.regex_search_core.specs.Search.{search_of};
 ghost use Rattle.nfa_paths.specs.Paths.{start_count, start_state, starts};
-ghost use Rattle.nfa_determinize.specs.Configurations.{scan_half};
+ghost use Rattle.nfa_lazy_dfa.specs.Configurations.{scan_half};
 ghost use Rattle.nfa_lazy_dfa.specs.Places.{IsFirstAt, IsFoundAt, IsNextPlace};
 ghost use Rattle.nfa_lazy_dfa.specs.Assertions.{IsRead, SameLooks, byte_before, sees};
 ghost use Rattle.nfa_lazy_dfa.specs.Capacities.{HasToScan, IsUsedUpAt, StopsAtStart, first_row_memory};

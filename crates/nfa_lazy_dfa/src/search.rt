@@ -3,7 +3,7 @@ ghost use Rattle.std.specs.Prelude.{◌≡◌, ◌↔◌, ◌<◌, ◌≤◌, If
 ghost use Rattle.regex_search_core.specs.Found.{half_found_of};
 ghost use Rattle.regex_search_core.specs.Search.{search_of};
 ghost use Rattle.nfa_paths.specs.Paths.{IsBoolAnswer, IsHalfAnswer, is_utf8_empty};
-ghost use Rattle.nfa_determinize.specs.Configurations.{IsRestartedHalf, IsStepsHalf, IsWholeHalf};
+ghost use Rattle.nfa_lazy_dfa.specs.Configurations.{IsRestartedHalf, IsStepsHalf, IsWholeHalf};
 ghost use Rattle.nfa_lazy_dfa.specs.Capacities.{HasNoRoom, HasToScan, IsUsedUpAt, StopsAtStart, first_row_memory};
 ghost use Rattle.nfa_lazy_dfa.specs.Configs.{kind_of, nfa_of};
 ghost use Rattle.nfa_lazy_dfa.specs.Reads.{HasReadSpan};
@@ -11,10 +11,10 @@ ghost use Rattle.nfa_lazy_dfa.specs.Rows.{IsBounded, IsFor, ScansAtMost, capacit
 ghost use Rattle.nfa_lazy_dfa.specs.Stops.{CountsStop, IsStop};
 
 use crate::cache::Cache;
+use crate::determinize::laws;
 use crate::dfa::DFA;
 use crate::error::StopError;
 use crate::scan::scan_half;
-use nfa_determinize::laws;
 use regex_search_core::{HalfMatch, Input};
 
 impl DFA {

@@ -6,7 +6,7 @@ ghost use Rattle.regex_search_core.specs.Found.{half_found_of};
 ghost use Rattle.regex_search_core.specs.PatternSets.{number_of};
 ghost use Rattle.regex_search_core.specs.Search.{search_of};
 ghost use Rattle.nfa_paths.specs.Paths.{IsHalfAnswer};
-ghost use Rattle.nfa_determinize.specs.Configurations.{scan_half, StartsFrom};
+ghost use Rattle.nfa_lazy_dfa.specs.Configurations.{scan_half, StartsFrom};
 ghost use Rattle.nfa_lazy_dfa.specs.Capacities.{HasNoRoom, HasToScan, IsUsedUpAt, StopsAtStart, first_row_memory};
 ghost use Rattle.nfa_lazy_dfa.specs.Configs.{kind_of, nfa_of};
 ghost use Rattle.nfa_lazy_dfa.specs.Reads.{HasRead, HasReadSpan, IsOver};
@@ -16,11 +16,11 @@ ghost use Rattle.nfa_lazy_dfa.specs.Watches.{IsBegun, IsWatching};
 ghost use Rattle.nfa_lazy_dfa.specs.Windows.{IsWindow, half_in, start_in};
 
 use crate::cache::Cache;
+use crate::determinize::laws;
 use crate::dfa::DFA;
 use crate::error::StopError;
 use crate::scan::{begin, next_row, place_after, scan_from, scan_half};
 use crate::watch::{Watch, first_watch, is_known, keep_left, looked_at, pass_counted, watch_at};
-use nfa_determinize::laws;
 use nfa_scan_core::starts::is_utf8_empty;
 use regex_search_core::{HalfMatch, Input, PatternID};
 

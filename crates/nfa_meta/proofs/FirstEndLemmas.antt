@@ -1,6 +1,6 @@
 -- A scan to the first end of a match finds none exactly if nothing matches. No match starts before its window.
 use Rattle.nfa_paths.proofs.Common.{◌≡◌, ◌≤◌, ℕ, true, false, not, refl, ap, sym, subst, None, Search, MatchKind, Automaton, IsBoolAnswer, IsHalfAnswer, edges_of, node_at}
-use Rattle.nfa_determinize.specs.Configurations.{StartsFrom}
+use Rattle.nfa_lazy_dfa.specs.Configurations.{StartsFrom}
 use Rattle.nfa_engines.specs.Laws.{NotFoundIsNothing}
 use Rattle.nfa_engines.specs.StartLaws.{IsFirstStart}
 use Rattle.nfa_lazy_dfa.specs.Windows.{IsWindow, start_in}

@@ -3,7 +3,7 @@
 use Rattle.nfa_paths.proofs.Common.{◌≡◌, inl, inr, ℕ, zero, suc, ◌+◌, ◌-◌, ◌<◌, ◌≤◌, Bool, true, false, List, [], ◌∷◌, refl, ap, sym, ◌∙◌, subst, arith, cases_Bool, cases_lt, MatchBool, Option, None, Some, is_anchored, IsBoundary, Found, Search, Automaton, MatchKind, Pair, PathTo, IsFindAnswer, IsHalfAnswer, IsKeptAnswer, IsRestartedAnswer, IsScanAnswer, IsSearchAnswer, IsWhole, SplitsCharacter, EndsOnBoundary, edges, is_utf8_empty, node_at, raised, starts, Yes, LeftmostFirst}
 use Rattle.nfa_paths.proofs.OneScanLemmas.{first-scan, scan-of, settled-scan}
 use Rattle.nfa_paths.proofs.StartLemmas.{raised-zero}
-use Rattle.nfa_determinize.specs.Configurations.{IsKeptHalf, IsRestartedHalf, StartsFrom, StepsFindTheHalf, scan_half}
+use Rattle.nfa_lazy_dfa.specs.Configurations.{IsKeptHalf, IsRestartedHalf, StartsFrom, StepsFindTheHalf, scan_half}
 use Rattle.nfa_engines.specs.StartLaws.{IsFirstStart, IsUnbound, StartsAnywhere, anchored_at, from_start}
 use Rattle.nfa_paths.proofs.FirstStartLemmas.{anchored-start, next-first, same_edges, start-unanchored, with-starts}
 use Rattle.nfa_engines.proofs.StartAnswerLemmas.{first-answers}

@@ -1,6 +1,6 @@
 -- A regex as the engine of an iteration over half matches.
 use Rattle.nfa_choice.proofs.FindLemmas.{pike-kept}
-use Rattle.nfa_hybrid.proofs.HalvesLemmas.{HalfEngine}
+use Rattle.nfa_choice.proofs.HalvesLemmas.{HalfEngine}
 use Rattle.nfa_meta.specs.Halves.{FindsHalfAfterDfa}
 use Rattle.nfa_meta.specs.RegexState.{KeepsRegex, RegexState, pike_of}
 use Rattle.nfa_meta.proofs.RegexLemmas.{regex_self, regex_then}

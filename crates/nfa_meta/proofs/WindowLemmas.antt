@@ -3,7 +3,7 @@ use Rattle.nfa_paths.proofs.Common.{Err, Ok, Result, ◌≡◌, ◌⊎◌, inl, 
 use Rattle.nfa_paths.proofs.AnswerLemmas.{scan_answer-leads, scan_answer-unique}
 use Rattle.nfa_paths.proofs.OneScanLemmas.{last-scan, scan-of, search-of}
 use Rattle.nfa_paths.proofs.PathToLemmas.{EndsWith-last}
-use Rattle.nfa_determinize.specs.Configurations.{StartsFrom}
+use Rattle.nfa_lazy_dfa.specs.Configurations.{StartsFrom}
 use Rattle.nfa_engines.specs.SpanLaws.{EndMayBeCut}
 use Rattle.nfa_engines.specs.StartLaws.{IsFirstStart, IsUnbound, from_start}
 use Rattle.nfa_paths.proofs.FirstStartLemmas.{heads-one, same_edges, start-anchored, start-unanchored, unanchored-start, with-starts}

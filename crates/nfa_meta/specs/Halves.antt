@@ -2,7 +2,7 @@
 use Rattle.std.specs.Prelude.{Option}
 use Rattle.nfa_search_base.specs.Common.{MutBor, Search, HalfMatch, GivesStepsWith, StepsWith}
 use Rattle.nfa_choice.specs.Iterations.{SearchesBy}
-use Rattle.nfa_hybrid.specs.HalfIterations.{HalvesLead, HalvesNextBy}
+use Rattle.nfa_choice.specs.HalfIterations.{HalvesLead, HalvesNextBy}
 use Rattle.nfa_meta.specs.RegexState.{KeepsRegex, RegexState, pike_of}
 use Rattle.nfa_meta.specs.WindowRuns.{by_ends}
 use Rattle.nfa_meta.specs.declared.regex.half_matches.ByEnds.{ByEnds}

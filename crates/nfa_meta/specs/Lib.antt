@@ -24,6 +24,6 @@ pub mod WindowLaws
 pub mod WindowRuns
 pub mod WorkLaws
 pub use Rattle.nfa_choice.specs.ChoiceState
-pub use Rattle.nfa_determinize.specs.Configurations
-pub use Rattle.nfa_hybrid.specs.HalfLists
-pub use Rattle.nfa_hybrid.specs.HalfRuns
+pub use Rattle.nfa_lazy_dfa.specs.Configurations
+pub use Rattle.nfa_choice.specs.HalfLists
+pub use Rattle.nfa_choice.specs.HalfRuns

@@ -3,7 +3,7 @@ use Rattle.std.specs.Prelude.{◌≡◌, ℕ, Bool, false, List, length, None, r
 use Rattle.nfa_paths.specs.Common.{Automaton}
 use Rattle.nfa_lazy_dfa.specs.Limits.{capacity_in}
 use Rattle.nfa_pikevm.specs.Engines.{cache_for}
-use Rattle.nfa_hybrid.specs.HybridState.{HybridState, KeepsHybrid}
+use Rattle.nfa_choice.specs.HybridState.{HybridState, KeepsHybrid}
 use Rattle.nfa_meta.specs.RegexState.{row_capacity}
 use Rattle.nfa_meta.specs.declared.builder.Config.{Config}
 

@@ -2,7 +2,7 @@
 use Rattle.std.specs.Prelude.{ℕ, ◌+◌, ◌≤◌, false, List, None, Option, Some}
 use Rattle.nfa_paths.specs.Common.{Found, HalfFound, Search, Automaton, IsAnswer, IsFindAnswer, IsHalfAnswer, LeftmostFirst}
 use Rattle.nfa_engines.specs.StartLaws.{IsFirstStart, IsUnbound, StartsAnywhere, anchored_at, from_start}
-use Rattle.nfa_determinize.specs.Configurations.{StartsFrom}
+use Rattle.nfa_lazy_dfa.specs.Configurations.{StartsFrom}
 
 -- the search with this span, and the same anchoring and haystack
 abbrev pub within : Search → ℕ → ℕ → Search

@@ -4,7 +4,7 @@ ghost use Rattle.regex_search_core.specs.Search.{search_of};
 ghost use Rattle.regex_search_core.specs.declared.search.MatchKind.TheVariants.{All};
 ghost use Rattle.nfa_paths.specs.Overlaps.{IsOverlapResult};
 ghost use Rattle.nfa_paths.specs.Paths.{IsBoolAnswer, is_utf8_empty};
-ghost use Rattle.nfa_hybrid.specs.HybridState.{RunsInTurn, SetRunsInTurn, bytes_of};
+ghost use Rattle.nfa_choice.specs.HybridState.{RunsInTurn, SetRunsInTurn, bytes_of};
 ghost use Rattle.nfa_meta.specs.Built.{IsBuiltFrom, IsWhyNotBuilt, default_builder, default_settings};
 ghost use Rattle.nfa_meta.specs.RegexSets.{IsNewSet, KeepsSet, no_pattern};
 
@@ -14,8 +14,8 @@ mod texts;
 use crate::builder::{Builder, Config, Texts};
 use crate::error::BuildError;
 pub use matches::SetMatches;
+use nfa_choice::hybrid::Hybrid;
 use nfa_engines::error::SearchError;
-use nfa_hybrid::Hybrid;
 use regex_search_core::{Input, MatchKind, PatternSet};
 use std::alloc::Global;
 use std::marker::Model;
@@ -41,7 +41,7 @@ pub struct RegexSet {
 impl Model for RegexSet {
     ghost use Rattle.std.specs.Prelude.{◌≡◌};
     ghost use Rattle.regex_search_core.specs.declared.search.MatchKind.TheVariants.{All};
-    ghost use Rattle.nfa_hybrid.specs.HybridState.{kind_in};
+    ghost use Rattle.nfa_choice.specs.HybridState.{kind_in};
     ghost use Rattle.nfa_meta.specs.RegexSets.{SetState};
 
     ghost Value = { SetState };

@@ -2,10 +2,11 @@
 
 use super::{Seen, Wrong, made};
 use nfa_choice::choose::Choice;
+use nfa_choice::dfa;
+use nfa_choice::hybrid::Hybrid;
 use nfa_engines::backtrack::{self, BoundedBacktracker};
 use nfa_engines::error::SearchError;
 use nfa_engines::pikevm::{self, PikeVM};
-use nfa_hybrid::{Hybrid, dfa};
 use regex_search_core::{Captures, GroupInfo, MatchKind, PatternSet, Refused};
 use std::alloc::Global;
 use test_support::samples;

@@ -2,8 +2,8 @@
 
 use super::iteration::WORDS_AND_NUMBERS;
 use super::{Seen, Wrong, engines, expect};
+use nfa_choice::hybrid::Hybrid;
 use nfa_engines::error::SearchError;
-use nfa_hybrid::Hybrid;
 use regex_search_core::{HalfMatch, Input};
 use std::alloc::Global;
 

@@ -1,9 +1,9 @@
 //! Iteration over the half matches of an input.
 
 use crate::regex::Regex;
+use nfa_choice::half_items::{half_item, half_span};
 use nfa_engines::error::SearchError;
 use nfa_engines::iter::{FindWith, Searcher, Steps};
-use nfa_hybrid::half_items::{half_item, half_span};
 use regex_search_core::{HalfMatch, Input, Span};
 
 /// An iterator over all half matches of an input, from left to right. [`Regex::half_matches`] returns it.
@@ -22,7 +22,7 @@ struct ByEnds;
 impl Regex {
     ghost use Rattle.std.specs.Prelude.{◌≡◌};
     ghost use Rattle.regex_search_core.specs.Search.{search_of};
-    ghost use Rattle.nfa_hybrid.specs.HalfRuns.{HalvesGiven};
+    ghost use Rattle.nfa_choice.specs.HalfRuns.{HalvesGiven};
     ghost use Rattle.nfa_choice.specs.ChoiceState.{kind_in};
     ghost use Rattle.nfa_meta.specs.Halves.{HalvesBySearches, HalvesGiveKept};
     ghost use Rattle.nfa_meta.specs.Halves.{halves_regex, halves_next};
@@ -68,7 +68,7 @@ impl FindWith for ByEnds {
     ghost use Rattle.nfa_search_base.specs.Items.{GivesItem, answer_by};
     ghost use Rattle.nfa_search_base.specs.IterStates.{half_span_of};
     ghost use Rattle.nfa_meta.specs.RegexState.{pike_of};
-    ghost use Rattle.nfa_hybrid.specs.HalfIterations.{AsksHalf};
+    ghost use Rattle.nfa_choice.specs.HalfIterations.{AsksHalf};
     ghost use Rattle.nfa_meta.specs.Halves.{FindsHalfAfterDfa};
     ghost use Rattle.std.specs.Prelude.{Ok};
 

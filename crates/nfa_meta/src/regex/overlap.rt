@@ -16,7 +16,7 @@ impl Regex {
     /// Matches of patterns at or above the capacity do not count.
     ///
     /// The search is always one of the PikeVM of the [`Choice`](nfa_choice::Choice). For every pattern that matches,
-    /// use a `Choice` or an `nfa_hybrid::Hybrid` with the match kind `All`.
+    /// use a `Choice` or an `nfa_choice::hybrid::Hybrid` with the match kind `All`.
     ///
     /// ```
     /// // regex of ["foo", "bar"]

@@ -16,12 +16,12 @@ ghost use Rattle.nfa_meta.specs.WindowRuns.{RunsByWindow};
 
 use crate::laws;
 use crate::regex::Regex;
-use nfa_determinize::laws::steps_find_the_half;
 use nfa_engines::laws::{bytes_may_be_skipped, found_is_an_accepting_path};
 use nfa_facts::literal::laws::nothing_has_no_answer;
 use nfa_facts::match_spans::laws::{
     anchored_matches_start_the_span, half_matches_are_ends, no_match_is_missed,
 };
+use nfa_lazy_dfa::determinize::laws::steps_find_the_half;
 use regex_search_core::{Input, Match, Span};
 
 /// The number of starts in a window that the lazy DFA tries before the choice searches the window.

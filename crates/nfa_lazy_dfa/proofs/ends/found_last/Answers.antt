@@ -1,6 +1,6 @@
 -- The match at the end of the span is the last one.
 use Rattle.nfa_paths.proofs.Common.{◌≡◌, ◌≤◌, ◌∙◌, ℕ, ap, sym, subst, arith, option_map, slice_get, number_of, search_of, half_at}
-use Rattle.nfa_determinize.specs.Configurations.{found_after, scan_half}
+use Rattle.nfa_lazy_dfa.specs.Configurations.{found_after, scan_half}
 use Rattle.nfa_lazy_dfa.specs.Assertions.{IsRead}
 use Rattle.nfa_lazy_dfa.specs.Rows.{IsAt}
 use Rattle.nfa_lazy_dfa.specs.Stances.{hit_here}

@@ -1,7 +1,7 @@
 -- The next stand has the states that the byte leads to.
 use Rattle.nfa_paths.proofs.Common.{rules, ◌≡◌, ◌∷◌, ◌++◌, [], sym, subst, Some, In}
 use Rattle.nfa_paths.proofs.MemberLemmas.{In-append_left}
-use Rattle.nfa_determinize.specs.Closures.{kept, step}
+use Rattle.nfa_lazy_dfa.specs.Closures.{kept, step}
 use Rattle.nfa_lazy_dfa.specs.Stances.{here, stance_of}
 use Rattle.nfa_lazy_dfa.proofs.follow.follow.Goals as goal
 use Rattle.nfa_lazy_dfa.proofs.follow.follow.Goals.{then-more+in_ok-push, else-more}

@@ -1,7 +1,7 @@
 -- The pattern of a Match is added.
 use Rattle.nfa_paths.proofs.Common.{◌≡◌, ◌≤◌, ◌+◌, ◌∷◌, ◌++◌, ℕ, List, [], ap, append_assoc, arith, drop, length, length-append, map, sym, ◌∙◌, None, Some, option_map, option_to_list, drop_more, map-append, number_of, PatternID, node_of, pattern_of}
 use Rattle.nfa_paths.proofs.StartLemmas.{node_at-get}
-use Rattle.nfa_determinize.specs.Closures.{state_pattern}
+use Rattle.nfa_lazy_dfa.specs.Closures.{state_pattern}
 use Rattle.nfa_lazy_dfa.specs.Stances.{patterns_in}
 use Rattle.nfa_lazy_dfa.proofs.follow.patterns_in.Goals as goal
 use Rattle.nfa_lazy_dfa.proofs.follow.patterns_in.Goals.{in-Some+in_ok-push, in_default}

@@ -1,6 +1,6 @@
 -- A row leads to the next place, at which the scan is over or goes on.
 use Rattle.nfa_paths.proofs.Common.{◌≡◌, ◌≤◌, ◌+◌, ◌∙◌, ℕ, inl, inr, ap, sym, subst, arith, option_map, slice_get, number_of, search_of, half_at}
-use Rattle.nfa_determinize.specs.Configurations.{found_after, scan_half}
+use Rattle.nfa_lazy_dfa.specs.Configurations.{found_after, scan_half}
 use Rattle.nfa_lazy_dfa.specs.Assertions.{IsRead}
 use Rattle.nfa_lazy_dfa.specs.Places.{IsNextPlace}
 use Rattle.nfa_lazy_dfa.specs.Rows.{IsAt}

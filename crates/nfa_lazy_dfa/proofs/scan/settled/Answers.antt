@@ -1,7 +1,7 @@
 -- A dead row ends the scan, as does the first match if it is enough.
 use Rattle.nfa_paths.proofs.Common.{◌≡◌, ◌≤◌, ◌<◌, ◌/◌, ◌*◌, ◌∙◌, ◌+◌, ◌-◌, ℕ, inl, inr, true, get_or, ap, sym, subst, arith, is_some, option_map, vec_len, half_found_of, search_of}
-use Rattle.nfa_determinize.specs.Configurations.{IsSettled, scanned}
-use Rattle.nfa_determinize.proofs.SettledLemmas.{settled-found}
+use Rattle.nfa_lazy_dfa.specs.Configurations.{IsSettled, scanned}
+use Rattle.nfa_lazy_dfa.proofs.SettledLemmas.{settled-found}
 use Rattle.nfa_lazy_dfa.specs.Rows.{IsAt, IsRowOf, LeadsTo}
 use Rattle.nfa_lazy_dfa.specs.Rows as rows
 use Rattle.nfa_lazy_dfa.specs.Stances.{stance_of}

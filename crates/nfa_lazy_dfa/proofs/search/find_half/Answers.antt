@@ -1,6 +1,6 @@
 -- The only scan has counted what it read. If a match has to end on a boundary, the search is one by steps.
 use Rattle.nfa_paths.proofs.Common.{option_map, IfOk-weaker, on_ok_weaker, half_found_of, search_of, IsHalfAnswer}
-use Rattle.nfa_determinize.specs.Configurations.{IsStepsHalf}
+use Rattle.nfa_lazy_dfa.specs.Configurations.{IsStepsHalf}
 use Rattle.nfa_lazy_dfa.proofs.ReadLemmas.{HasReadSpan-one}
 use Rattle.nfa_lazy_dfa.proofs.search.find_half.Goals as goal
 

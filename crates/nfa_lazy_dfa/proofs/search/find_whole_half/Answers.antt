@@ -1,7 +1,7 @@
 -- A match that does not count moves the start on.
 use Rattle.nfa_paths.proofs.Common.{rules, ◌≡◌, ◌≤◌, ◌∙◌, ◌+◌, ◌-◌, ℕ, ap, subst, arith, option_map, half_found_of, Search, search_of, MatchKind, Automaton, IfErr-weaker}
-use Rattle.nfa_determinize.specs.Configurations.{scan_half, FindsSplit}
-use Rattle.nfa_determinize.proofs.ScanHalfLemmas.{Skipping, Skipping-begin, Skipping-end, Skipping-more, split-inside, split-of}
+use Rattle.nfa_lazy_dfa.specs.Configurations.{scan_half, FindsSplit}
+use Rattle.nfa_lazy_dfa.proofs.ScanHalfLemmas.{Skipping, Skipping-begin, Skipping-end, Skipping-more, split-inside, split-of}
 use Rattle.nfa_lazy_dfa.specs.Reads.{IsOver}
 use Rattle.nfa_lazy_dfa.specs.Rows.{Scans}
 use Rattle.nfa_lazy_dfa.specs.Stops.{IsStop}

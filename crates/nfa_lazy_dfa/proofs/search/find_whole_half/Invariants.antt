@@ -1,7 +1,7 @@
 -- Each start so far finds a match that splits a codepoint.
 use Rattle.nfa_paths.proofs.Common.{◌≡◌, ◌≤◌, ◌+◌, ◌-◌, option_map, half_found_of, search_of}
-use Rattle.nfa_determinize.specs.Configurations.{scan_half}
-use Rattle.nfa_determinize.proofs.ScanHalfLemmas.{Skipping}
+use Rattle.nfa_lazy_dfa.specs.Configurations.{scan_half}
+use Rattle.nfa_lazy_dfa.proofs.ScanHalfLemmas.{Skipping}
 use Rattle.nfa_lazy_dfa.specs.Reads.{HasRead, IsOver}
 use Rattle.nfa_lazy_dfa.specs.Rows.{IsFor, Scans}
 use Rattle.nfa_lazy_dfa.proofs.search.find_whole_half.Given as goal

@@ -1,6 +1,6 @@
 -- Without a match there is no pattern; else they are looked up.
 use Rattle.nfa_paths.proofs.Common.{rules, ◌≡◌, ◌<◌, List, length, map, ap, sym, ◌∙◌, arith, None, option_map, slice_get, vec_len, number_of}
-use Rattle.nfa_determinize.proofs.StepLemmas.{number-none}
+use Rattle.nfa_lazy_dfa.proofs.StepLemmas.{number-none}
 use Rattle.nfa_lazy_dfa.specs.Rows.{stances_of}
 use Rattle.nfa_lazy_dfa.specs.Stances.{Stance, here, hits_here, stance_of}
 use Rattle.nfa_lazy_dfa.proofs.CacheLemmas.{below-at, row-is}

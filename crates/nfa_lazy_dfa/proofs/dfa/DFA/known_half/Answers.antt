@@ -1,6 +1,6 @@
 -- The only scan of the search finds its half match.
 use Rattle.nfa_paths.proofs.Common.{◌≡◌, ◌∙◌, refl, sym, ap, Bool, true, false, Some, MatchBool, option_map, HalfFound, half_found_of, Search, search_of, MatchKind, Automaton, IsBoundary, is_anchored, is_utf8_empty}
-use Rattle.nfa_determinize.specs.Configurations.{IsKeptHalf, IsRestartedHalf, IsStepsHalf, scan_half}
+use Rattle.nfa_lazy_dfa.specs.Configurations.{IsKeptHalf, IsRestartedHalf, IsStepsHalf, scan_half}
 use Rattle.nfa_lazy_dfa.proofs.dfa.DFA.known_half.Goals as goal
 
 module _ (nfa : Automaton) (kind : MatchKind) (earliest : Bool) (x : Search) (h : HalfFound) where

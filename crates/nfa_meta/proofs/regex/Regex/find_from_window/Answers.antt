@@ -1,7 +1,7 @@
 -- A scan that finds nothing is the answer of its search.
 use Rattle.nfa_paths.proofs.Common.{rules, ◌≡◌, None, arith, common_steps, search_of}
 use Rattle.nfa_choice.specs.ChoiceState.{kind_in}
-use Rattle.nfa_determinize.specs.Configurations.{scan_half}
+use Rattle.nfa_lazy_dfa.specs.Configurations.{scan_half}
 use Rattle.nfa_meta.proofs.GoesOnLemmas.{half-none}
 use Rattle.nfa_meta.proofs.WindowLemmas.{none-match}
 use Rattle.nfa_meta.proofs.regex.Regex.find_from_window.Goals as goal

@@ -1,7 +1,7 @@
 -- The half match is that of the search, in the span, and its pattern is one of the NFA's.
 use Rattle.nfa_paths.proofs.Common.{arith, rules, common_steps, option_map, half_found_of, search_of, IsHalfAnswer}
 use Rattle.nfa_search_base.proofs.AskingLemmas.{half-lies}
-use Rattle.nfa_hybrid.proofs.AnswerLemmas.{half-pattern-within}
+use Rattle.nfa_choice.proofs.AnswerLemmas.{half-pattern-within}
 use Rattle.nfa_choice.specs.ChoiceState.{kind_in}
 use Rattle.nfa_meta.specs.WindowRuns.{HalvesAs}
 use Rattle.nfa_meta.proofs.regex.Regex.find_half.Goals as goal

@@ -1,6 +1,6 @@
 -- The iterator gives the half matches of its input, and keeps the engine.
 use Rattle.nfa_paths.proofs.Common.{refl, search_of}
-use Rattle.nfa_hybrid.proofs.HalvesLemmas.{halves-kept, halves-of, halves-searches}
+use Rattle.nfa_choice.proofs.HalvesLemmas.{halves-kept, halves-of, halves-searches}
 use Rattle.nfa_meta.specs.Halves.{half_steps}
 use Rattle.nfa_meta.proofs.HalvesLemmas.{regex_engine}
 use Rattle.nfa_meta.proofs.regex.Regex.half_matches.Goals as goal

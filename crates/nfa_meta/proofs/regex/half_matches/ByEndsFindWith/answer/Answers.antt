@@ -1,7 +1,7 @@
 -- The half match is the answer of the search.
 use Rattle.nfa_paths.proofs.Common.{search_of}
 use Rattle.nfa_choice.specs.ChoiceState.{kind_in}
-use Rattle.nfa_hybrid.proofs.HalfListLemmas.{half-answered}
+use Rattle.nfa_choice.proofs.HalfListLemmas.{half-answered}
 use Rattle.nfa_meta.proofs.regex.half_matches.ByEndsFindWith.answer.Goals as goal
 
 pub returns : goal.returns

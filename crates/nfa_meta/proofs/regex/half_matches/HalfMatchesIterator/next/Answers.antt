@@ -2,8 +2,8 @@
 use Rattle.nfa_paths.proofs.Common.{half_found_of}
 use Rattle.nfa_search_base.specs.Common.{may_ask, steps_with_state, half_span_of}
 use Rattle.nfa_search_base.proofs.StoredLemmas.{surely-inside}
-use Rattle.nfa_hybrid.specs.HalfIterations.{AsksHalf}
-use Rattle.nfa_hybrid.proofs.HalvesLemmas.{halves-serve}
+use Rattle.nfa_choice.specs.HalfIterations.{AsksHalf}
+use Rattle.nfa_choice.proofs.HalvesLemmas.{halves-serve}
 use Rattle.nfa_meta.specs.Halves.{FindsHalfAfterDfa, half_steps}
 use Rattle.nfa_meta.specs.RegexState.{pike_of}
 use Rattle.nfa_meta.proofs.HalvesLemmas.{regex_engine}

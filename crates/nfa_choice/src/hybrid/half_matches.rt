@@ -1,0 +1,126 @@
+//! Iteration over the half matches of an input.
+
+use crate::half_items::{half_item, half_span};
+use crate::hybrid::Hybrid;
+use nfa_engines::error::SearchError;
+use nfa_engines::iter::{FindWith, Searcher, Steps};
+use regex_search_core::{HalfMatch, Input, Span};
+
+/// An iterator over all half matches of an input, from left to right. [`Hybrid::half_matches`] returns it.
+///
+/// It gives at most n + 1 half matches for a span of n bytes. It is fused: after the last one it returns only `None`.
+#[derive(Drop)]
+pub struct HalfMatches<'c, 'h> {
+    hybrid: &'c mut Hybrid,
+    steps: Steps<'h, InTurn>,
+}
+
+// The searches of one iteration: each borrows the hybrid, whose engines search in turn.
+#[derive(Debug, Drop)]
+struct InTurn;
+
+impl Hybrid {
+    ghost use Rattle.std.specs.Prelude.{◌≡◌};
+    ghost use Rattle.regex_search_core.specs.Search.{search_of};
+    ghost use Rattle.nfa_choice.specs.HalfRuns.{HalvesGiven};
+    ghost use Rattle.nfa_choice.specs.HybridState.{kind_in};
+    ghost use Rattle.nfa_choice.specs.Halves.{HalvesBySearches, HalvesGiveKept};
+    ghost use Rattle.nfa_choice.specs.Halves.{halves_hybrid, halves_next};
+
+    /// Returns an iterator over all half matches, from left to right: the patterns of the matches that the searches of
+    /// an iteration find, and the offsets of their ends. Does not allocate.
+    ///
+    /// Each search starts at the end of the last match. A half match at that same offset is replaced by the result of a
+    /// search from one byte further on, also if its match is not empty, since a half match has no start.
+    ///
+    /// ```
+    /// // hybrid of "foo(?<n>[0-9]+)"
+    /// let mut ends = Vec::new(alloc);
+    /// for half in hybrid.half_matches(Input::new(b"foo1 foo12 foo123")) {
+    ///     ends.push(half.offset())?;
+    /// }
+    /// assert_eq!(rt; ends.as_slice(), [4, 10, 17].as_slice());
+    /// ```
+    pub fn half_matches<'c, 'h>(&'c mut self, input: Input<'h>) -> HalfMatches<'c, 'h>
+        ensures same_reference { (halves_hybrid result).ghost_name ≡ self.entry.ghost_name }
+        ensures same_hybrid { (halves_hybrid result).now ≡ self.entry.now }
+        // Each run of calls gives the first half matches of the input, and all of them if it goes on to `None`.
+        ensures given { HalvesGiven self.entry.now.nfa (kind_in self.entry.now) (search_of input.entry) halves_next
+            result }
+        // The hybrid changes only by the searches of the steps.
+        ensures searches { HalvesBySearches (search_of input.entry) result }
+        ensures keeps { HalvesGiveKept result }
+    {
+        HalfMatches {
+            hybrid: self,
+            steps: Steps {
+                searcher: Searcher::new(input),
+                backend: InTurn,
+                done: false,
+            },
+        }
+    }
+}
+
+impl FindWith for InTurn {
+    ghost use Rattle.regex_search_core.specs.Found.{HalfFound, half_found_of};
+    ghost use Rattle.nfa_search_base.specs.Finders.{may_ask};
+    ghost use Rattle.nfa_search_base.specs.Items.{GivesItem, answer_by};
+    ghost use Rattle.nfa_search_base.specs.IterStates.{half_span_of};
+    ghost use Rattle.nfa_choice.specs.HalfIterations.{AsksHalf};
+    ghost use Rattle.nfa_choice.specs.Halves.{FindsHalfInTurn};
+    ghost use Rattle.nfa_choice.specs.HybridState.{pike_of};
+    ghost use Rattle.std.specs.Prelude.{Ok};
+
+    type Cache = Hybrid;
+
+    type Reply = Option<HalfMatch>;
+
+    ghost Value = { HalfFound };
+
+    ghost shows = { λ _ reply. answer_by half_found_of (Ok reply) };
+
+    ghost span = { half_span_of };
+
+    ghost accepts = { may_ask };
+
+    type Item = HalfMatch;
+
+    ghost gives = { λ _. GivesItem half_found_of };
+
+    ghost asks = { AsksHalf pike_of FindsHalfInTurn };
+
+    #[inline]
+    fn answer(&mut self, hybrid: &mut Hybrid, input: &Input<'_>) -> Option<HalfMatch> {
+        hybrid.find_half(*input)
+    }
+
+    #[inline]
+    fn reply_span(&self, reply: Option<HalfMatch>) -> Option<Span> {
+        half_span(reply)
+    }
+
+    #[inline]
+    fn item(&self, reply: Option<HalfMatch>) -> Option<Result<HalfMatch, SearchError>> {
+        half_item(reply)
+    }
+}
+
+impl<'c, 'h> Iterator for HalfMatches<'c, 'h> {
+    ghost use Rattle.nfa_search_base.specs.Stored.{infallible_left};
+    ghost use Rattle.nfa_choice.specs.Halves.{half_steps, halves_next};
+
+    type Item = HalfMatch;
+
+    ghost next_gives = { halves_next };
+
+    ghost remaining = { λ s. infallible_left (half_steps s).steps };
+
+    fn next(&mut self) -> Option<HalfMatch> {
+        match self.steps.next_with(self.hybrid) {
+            Some(Ok(half)) => Some(half),
+            None => None,
+            Some(Err(_)) => unreachable!(),
+        }
+    }
+}

@@ -1,7 +1,0 @@
-//! For authors of determinizers: a scan as steps over ordered lists of NFA states, and the theorem that they find its
-//! answer.
-#![tactic(auto)]
-
-pub mod closure;
-pub mod laws;
-pub mod scan;
