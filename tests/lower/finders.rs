@@ -1,7 +1,7 @@
 //! Callers of iterators over stored finders, as a user would write them. The finders are functions and never err.
 
 use super::fixtures::captures_at;
-use list_callers::sure::{captures_surely_collected, halves_surely_collected, surely_collected};
+use callers::sure::{captures_surely_collected, halves_surely_collected, surely_collected};
 use std::test::Fail;
 
 // An empty match at each offset of two bytes, and after them.

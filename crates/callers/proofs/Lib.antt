@@ -2,3 +2,4 @@ mod KindLemmas
 mod DigitLemmas
 mod PathStateLemmas
 mod HalfLemmas
+pub mod EmptyFinderLemmas

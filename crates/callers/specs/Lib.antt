@@ -1,2 +1,4 @@
+pub mod EmptyFinder
 pub mod Lines
+pub mod Pieces
 pub mod Texts

@@ -4,10 +4,10 @@ ghost use Rattle.nfa_bench.specs.Stops.{ending};
 ghost use Rattle.nfa_bench.specs.declared.run.Stop.TheVariants.{UnknownName};
 ghost use Rattle.nfa_samples.specs.Names.{IsNoneOf, sample_names};
 
-use named_engine::Engine;
 use nfa_engines::backtrack::BoundedBacktracker;
 use nfa_engines::error::SearchError;
 use nfa_engines::pikevm::PikeVM;
+use nfa_samples::named_engine::Engine;
 use nfa_samples::sample;
 use regex_search_core::{Input, Match};
 use std::alloc::Global;

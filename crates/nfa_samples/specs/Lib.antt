@@ -1,2 +1,3 @@
 pub mod StateTables
 pub mod Names
+pub mod Counts

@@ -1,7 +1,8 @@
 //! Sample NFAs by name, for tests and for trying out the engines.
 //!
 //! Use this crate to try a search before you write an NFA of your own. `nfa_compiler` makes an NFA from a pattern, and
-//! `thompson_nfa` from its states. [`answers`] has the answers of searches of the samples.
+//! `thompson_nfa` from its states. [`answers`] has the answers of searches of the samples, and [`named_engine`] the engine
+//! that an argument of a program names.
 //!
 //! ```
 //! let nfa = sample(alloc, "foo_num")?.context("there is no NFA of this name")?;
@@ -14,6 +15,7 @@ ghost use Rattle.nfa_samples.specs.Names.{IsNoneOf, sample_names};
 
 pub mod answers;
 mod empties;
+pub mod named_engine;
 mod state_table;
 mod tables;
 mod words;

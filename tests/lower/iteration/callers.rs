@@ -2,7 +2,7 @@
 
 use crate::tests::fixtures::{captures_at, plain_groups};
 use crate::tests::shown::expect_shown;
-use list_callers::finders::{captures_collected_by, collected, collected_captures, looped};
+use callers::finders::{captures_collected_by, collected, collected_captures, looped};
 use nfa_search_base::error::SearchError;
 use nfa_search_base::iter::Searcher;
 use regex_search_core::{Captures, Input, Match, MatchError, NonMaxUsize, PatternID};

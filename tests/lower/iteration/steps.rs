@@ -1,7 +1,7 @@
 //! Tests of a searcher, step by step.
 
 use crate::tests::shown::expect_shown;
-use list_callers::finders::{collected_by, halves_collected_by};
+use callers::finders::{collected_by, halves_collected_by};
 use nfa_search_base::error::SearchError;
 use nfa_search_base::iter::{Offered, Searcher};
 use regex_search_core::{HalfMatch, Input, Match, MatchError, PatternID, Span};

@@ -1,8 +1,8 @@
-//! The callers in `list_callers` that use the lists of a backtracker, or list the pieces of a text.
+//! Functions of `callers` that use the lists of a backtracker, or list the pieces of a text.
 
 use crate::tests::{engine_named, expect_matches, expect_text, with_capacity};
-use list_callers::matches::{matched_len, tries_collected};
-use list_callers::pieces::pieces;
+use callers::matches::{matched_len, tries_collected};
+use callers::pieces::pieces;
 use nfa_engines::error::SearchError;
 use regex_search_core::{Input, Match};
 use std::alloc::{AllocError, Global};

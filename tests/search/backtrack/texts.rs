@@ -1,7 +1,7 @@
 //! The `Debug` texts of iterators.
 
 use crate::tests::expect_shown;
-use list_callers::pieces::next_piece;
+use callers::pieces::next_piece;
 use nfa_engines::backtrack::BoundedBacktracker;
 use nfa_engines::error::SearchError;
 use nfa_engines::iter::Searcher;

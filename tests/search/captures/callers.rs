@@ -1,7 +1,7 @@
-//! The callers in `list_callers` that list captures of both engines, or captures and matches.
+//! Functions of `callers` that list captures of both engines, or captures and matches.
 
 use crate::tests::{engine_named, threads, vm_named};
-use list_callers::captures::{captures_and_matches, caught_by_both};
+use callers::capture_lists::{captures_and_matches, caught_by_both};
 use std::test::Fail;
 
 const TEXT: &[u8] = b"abc 1 foo 4567 0 quux";

@@ -1,6 +1,6 @@
 //! Captures in a span that is too long.
 use crate::tests::with_capacity;
-use list_callers::captures::tries_collected;
+use callers::capture_lists::tries_collected;
 use nfa_engines::Input;
 use nfa_engines::error::SearchError::HaystackTooLong;
 use std::test::Fail;

@@ -1,7 +1,7 @@
 //! Lists of captures of the sample NFAs, of both engines.
 use super::{DATE_SLOTS, expect_captures};
 use crate::tests::{engine_named, threads, vm_named};
-use list_callers::captures::{collected, collected_with, tries_collected, tries_collected_with};
+use callers::capture_lists::{collected, collected_with, tries_collected, tries_collected_with};
 use nfa_engines::error::SearchError;
 use nfa_engines::{Captures, Input};
 use std::process::Abort;

@@ -1,7 +1,7 @@
-//! The callers in `list_callers` that use the lists of a PikeVM, and what they return.
+//! Functions of `callers` that use the lists of a PikeVM, and what they return.
 
 use crate::tests::{expect_matches, threads, vm_named};
-use list_callers::matches::{collected, first_alone, how_many};
+use callers::matches::{collected, first_alone, how_many};
 use std::test::Fail;
 use test_support::samples::parts;
 

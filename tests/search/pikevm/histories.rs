@@ -1,7 +1,7 @@
 //! Earlier searches with a cache do not show: a used cache and a fresh one give the same answer.
 
 use crate::tests::{engine_named, threads, vm_named};
-use list_callers::histories::{found_twice, tried_twice};
+use callers::histories::{found_twice, tried_twice};
 use regex_search_core::Input;
 use std::test::Fail;
 use test_support::samples::parts;

@@ -1,2 +1,0 @@
-pub mod EmptyFinder
-pub mod Pieces
