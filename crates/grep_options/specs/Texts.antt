@@ -1,7 +1,7 @@
 -- The texts of patterns, and of errors.
 use Rattle.std.specs.Prelude.{ℕ, List, ◌++◌, ◌==◌, None, Option, Some, codes, decimal, string_bytes}
 use Rattle.std.specs.List.{slice_split}
-use Rattle.text_lines.specs.Lines.{line_feed}
+use Rattle.program_text.specs.Lines.{line_feed}
 use Rattle.grep_options.specs.declared.error.OptionsError.{OptionsError}
 use Rattle.grep_options.specs.declared.error.OptionsError.TheVariants as error
 

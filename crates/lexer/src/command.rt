@@ -1,8 +1,8 @@
 //! What the arguments of the command line ask for.
 use crate::lexer::Prefer;
 use crate::report::Style;
-use option_values::parted::part_words;
-use option_values::words::{NotText, Word, texts};
+use program_text::parted::part_words;
+use program_text::words::{NotText, Word, texts};
 use std::alloc::{AllocError, Global};
 use std::fmt;
 

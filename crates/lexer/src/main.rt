@@ -19,7 +19,7 @@ use crate::position::Position;
 use crate::report::{Outcome, Style};
 use crate::rules::Rule;
 use anyhow::Result;
-use option_values::words::{arguments, words};
+use program_text::words::{arguments, words};
 use std::fmt::Display;
 use std::io::{BufWriter, ErrorKind, Read};
 use std::process::ExitCode;

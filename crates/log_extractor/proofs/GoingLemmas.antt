@@ -2,8 +2,8 @@
 use Rattle.nfa_paths.proofs.Common.{◌≡◌, ◌∙◌, ℕ, List, [], ◌∷◌, ◌++◌, ap, arith, Option, Some, IfSome, flat_map, common_steps, flat_map-append}
 use Rattle.std.proofs.Common.{Bool, true, false, Result, Ok, Err, IfOk}
 use Rattle.std.specs.Io.KnownBytes.{Keeps}
-use Rattle.text_lines.specs.Lines.{line_feed, lines_of, AreFirstRecords, HasNoRecord, TakesRecord}
-use Rattle.text_lines.proofs.LineLemmas.{if-kept, records-of-parts}
+use Rattle.program_text.specs.Lines.{line_feed, lines_of, AreFirstRecords, HasNoRecord, TakesRecord}
+use Rattle.program_text.proofs.LineLemmas.{if-kept, records-of-parts}
 use Rattle.log_extractor.specs.Taken.{TakesNext}
 use Rattle.log_extractor.specs.Printed.{extracted_lines, shown_line}
 use Rattle.log_extractor.specs.Several.{LabelledPattern}

@@ -1,7 +1,7 @@
 -- A row with tabs is one line, and what is between its tabs means its texts.
 use Rattle.std.specs.List.{slice_split}
 use Rattle.nfa_paths.proofs.Common.{◌≡◌, ◌≢◌, ◌↔◌, ℕ, Bool, true, false, Option, None, Some, length, sym, List, [], ◌∷◌, ◌++◌, codes, refl, arith, All, All-append, All-nil, common_steps, ◌∙◌, map, ap, append-nil, flat_map, All-cons, All-tail, ◌==◌}
-use Rattle.text_lines.specs.Lines.{carriage_return, line_feed}
+use Rattle.program_text.specs.Lines.{carriage_return, line_feed}
 use Rattle.log_extractor.specs.Printed.{backslash, escaped, escaped_byte, is_whole, tab, unescaped, members, row_text, written}
 use Rattle.log_extractor.specs.declared.output.Form.TheVariants.{Tabs}
 use Rattle.log_extractor.specs.declared.output.Values.{Values}

@@ -6,7 +6,7 @@ use Rattle.std.specs.Ordering.{is_lt, nat_cmp}
 use Rattle.std.specs.declared.cmp.Ordering.{Ordering}
 use Rattle.std.specs.declared.cmp.Reverse.{Reverse}
 use Rattle.nfa_paths.specs.Common.{Bor, decimal, Vec, AllAdjacentBelow, Contains, IsDistinct, option_to_list, bytes_eq}
-use Rattle.text_lines.specs.Lines.{content, line_feed}
+use Rattle.program_text.specs.Lines.{content, line_feed}
 use Rattle.log_extractor.specs.Fields.{field_text}
 use Rattle.log_extractor.specs.Selected.{row_in}
 use Rattle.log_extractor.specs.Several.{LabelledPattern}

@@ -4,7 +4,7 @@ use Rattle.std.specs.List.{list_any, slice_split}
 use Rattle.std.specs.Str.Lossy.{utf8_lossy}
 use Rattle.json.specs.Print.{quoted}
 use Rattle.json.specs.Word.{after_number}
-use Rattle.text_lines.specs.Lines.{carriage_return, content, line_feed, lines_of, with_end}
+use Rattle.program_text.specs.Lines.{carriage_return, content, line_feed, lines_of, with_end}
 use Rattle.log_extractor.specs.Fields.{field_text}
 use Rattle.log_extractor.specs.Selected.{row_in, selected_names}
 use Rattle.log_extractor.specs.Several.{LabelledPattern}

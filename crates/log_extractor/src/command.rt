@@ -6,7 +6,7 @@ use crate::output::{Form, Output, Values};
 use crate::pattern::{COMBINED, LINE, SYSLOG};
 use anyhow::Result;
 use clap::{Arg, ArgAction, ArgMatches, Error};
-use option_values::{Valued, split_values};
+use program_text::split::{Valued, split_values};
 use std::alloc::{AllocError, Global};
 
 /// How the program is called.

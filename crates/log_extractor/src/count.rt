@@ -2,7 +2,7 @@
 ghost use Rattle.std.specs.Prelude.{◌≡◌, ◌++◌, ◌∷◌, [], IfErr, IfNone, IfOk, IfSome, List, OnOk, map, option_map};
 ghost use Rattle.std.specs.Prelude.{false, slice_get, string_bytes, ℕ, flat_map};
 ghost use Rattle.std.specs.Io.KnownBytes.{Appends};
-ghost use Rattle.text_lines.specs.Lines.{content, lines_of};
+ghost use Rattle.program_text.specs.Lines.{content, lines_of};
 ghost use Rattle.std.specs.BTreeMap.{IsOrdered};
 ghost use Rattle.log_extractor.specs.Counts.{IsCountList, IsFound, IsTally, count_head, tally_line, counted};
 ghost use Rattle.log_extractor.specs.Counts.{entry_counted, key_cmp, value_in};
@@ -14,14 +14,14 @@ use crate::names::is_name;
 use crate::output::Form;
 use crate::row::separator;
 use crate::rows::Rows;
+use program_text::failure::Failure;
+use program_text::held::first_record;
+use program_text::line::content;
+use program_text::stream::{read_line, write_bytes};
 use std::alloc::{AllocError, Global};
 use std::cmp::Reverse;
 use std::collections::BTreeMap;
 use std::io::{BufRead, Write};
-use text_lines::failure::Failure;
-use text_lines::held::first_record;
-use text_lines::line::content;
-use text_lines::stream::{read_line, write_bytes};
 
 /// How often each value occurs, by the values that occur.
 pub type Counts = BTreeMap<Vec<u8>, u64>;

@@ -4,10 +4,10 @@ use crate::count::{Counts, count_lines, no_counts, print_count_head, print_count
 use crate::output::{Form, Output};
 use crate::report::{print_head, print_lines};
 use crate::rows::Rows;
+use program_text::failure::Failure;
 use std::alloc::Global;
 use std::io::{BufRead, BufReader, BufWriter, IsTerminal, Read, Write};
 use std::{fs, io};
-use text_lines::failure::Failure;
 
 /// What standard error says if no line has a row.
 const NO_ROW: &str =

@@ -29,13 +29,13 @@ use crate::selection::Selection;
 use anyhow::Result;
 use clap::Error;
 use clap::error::ErrorKind;
-use option_values::output::{IS_OUTPUT, first_output, shown_name};
-use option_values::words::{arguments, texts, words};
+use program_text::failure::Failure;
+use program_text::output::{IS_OUTPUT, first_output, shown_name};
+use program_text::words::{arguments, texts, words};
 use std::alloc::{AllocError, Global};
 use std::fmt::Display;
 use std::io;
 use std::process::ExitCode;
-use text_lines::failure::Failure;
 
 /// No line has a row.
 const NO_ROW: u8 = 1;

@@ -1,7 +1,7 @@
 //! What is printed of an input, line by line.
 ghost use Rattle.std.specs.Prelude.{◌≡◌, ◌++◌, IfOk, IfSome, List, OnOk, is_some, map, option_map, string_bytes};
 ghost use Rattle.std.specs.Io.KnownBytes.{Appends};
-ghost use Rattle.text_lines.specs.Lines.{content, lines_of};
+ghost use Rattle.program_text.specs.Lines.{content, lines_of};
 ghost use Rattle.log_extractor.specs.Fields.{fields_now};
 ghost use Rattle.log_extractor.specs.Selected.{row_in, selected_names};
 ghost use Rattle.log_extractor.specs.Several.{AreLinePatterns, LabelledPattern};
@@ -16,12 +16,12 @@ use crate::object::append_object;
 use crate::output::Output;
 use crate::row::{append_names, append_row};
 use crate::rows::Rows;
+use program_text::failure::Failure;
+use program_text::held::first_record;
+use program_text::line::{append_whole, content};
+use program_text::stream::{read_line, write_bytes};
 use std::alloc::{AllocError, Global};
 use std::io::{BufRead, Write};
-use text_lines::failure::Failure;
-use text_lines::held::first_record;
-use text_lines::line::{append_whole, content};
-use text_lines::stream::{read_line, write_bytes};
 
 /// The rows of a text, its objects and its rejects are those of its parts, if it is cut after line feeds. So the parts
 /// of a log can be printed side by side, each by a process of its own.

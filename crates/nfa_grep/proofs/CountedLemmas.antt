@@ -3,9 +3,9 @@ use Rattle.bstr.specs.Records.{records}
 use Rattle.nfa_paths.proofs.Common.{Appends-nil, Keeps, Keeps-refl, ◌≡◌, ◌∙◌, ℕ, ◌+◌, ◌-◌, ◌<◌, Bool, false, true, All, inl, inr, List, [], ◌∷◌, ◌++◌, length, refl, sym, ap, arith, append_assoc, append-nil, length-append, Option, None, Some, IfSome, IfSome_then, concat, cond, count_by, drop, ◌==◌, cases_Bool, ne_eqb, All-head, All-tail, sum_by-append, sum_by-cons, true≢false, zero-add}
 use Rattle.std.proofs.lemmas.List.Folds.{concat-append}
 use Rattle.std.specs.Io.KnownBytes.{Consumes}
-use Rattle.text_lines.specs.Lines.{HasNoRecord, IsRecord, PassesRecords, TakesRecord}
-use Rattle.text_lines.specs.declared.passed.Passed.{Passed}
-use Rattle.text_lines.proofs.LineLemmas.{text-of-first}
+use Rattle.program_text.specs.Lines.{HasNoRecord, IsRecord, PassesRecords, TakesRecord}
+use Rattle.program_text.specs.declared.passed.Passed.{Passed}
+use Rattle.program_text.proofs.LineLemmas.{text-of-first}
 use Rattle.nfa_grep.specs.Counted.{AreCounted, Counted, CountsLines, HasCounted, IsCounted, IsCounting}
 use Rattle.nfa_grep.specs.Going.{PrintsLines, PrintsReport}
 use Rattle.nfa_grep.specs.Meant.{Options, Re}

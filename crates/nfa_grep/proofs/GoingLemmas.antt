@@ -1,8 +1,8 @@
 -- A search of an input starts, goes on by a line, and ends.
 use Rattle.bstr.specs.Records.{records}
 use Rattle.nfa_paths.proofs.Common.{Appends, Keeps, Appends-nil, Appends-trans, Keeps-refl, ◌≡◌, ◌∙◌, ℕ, ◌+◌, ◌-◌, ◌<◌, ◌≤◌, Bool, true, false, All, inl, inr, List, [], ◌∷◌, ◌++◌, length, refl, sym, ap, subst, arith, append_assoc, append-nil, zero-add, Option, None, Some, IfSome, cond, count_by, if◌then◌else◌, not, ◌==◌, ◌&&◌, ◌⊎◌, nat_lt, concat, and_parts, cases_Bool, cases_lt, eq-eqb, eqb-true, le-ltb, lt-ltb, ltb-false, ne_eqb, not-true, length-append, All-cons, All-head, All-nil, All-tail, sum_by-cons}
-use Rattle.text_lines.specs.Lines.{AreFirstRecords, HasNoRecord, TakesRecord}
-use Rattle.text_lines.proofs.LineLemmas.{text-of-first}
+use Rattle.program_text.specs.Lines.{AreFirstRecords, HasNoRecord, TakesRecord}
+use Rattle.program_text.proofs.LineLemmas.{text-of-first}
 use Rattle.nfa_grep.specs.Meant.{Options, Re}
 use Rattle.nfa_grep.specs.Going.{Groups, HasPassed, IsGoing, IsInOrder, LineStart, Place, PrintsLines, Taken, TakesNext, kept_items, kept_texts, printed_later}
 use Rattle.nfa_grep.specs.Printed.{Context, Item, fewer, grouped, has_selected, is_picked, is_selected, item_of, items, left_after, read, searched, selected_count}

@@ -5,6 +5,7 @@ mod MeantLemmas
 mod NeededLemmas
 mod NumbersLemmas
 mod PaintedLemmas
+mod PartLemmas
 mod PatternLemmas
 mod WhichLemmas
 mod WidthLemmas

@@ -1,10 +1,10 @@
 -- Bytes that each match has are in each line that is selected, and lines without them may be passed.
 use Rattle.nfa_paths.proofs.Common.{◌≡◌, ◌∙◌, ℕ, ◌+◌, Bool, true, false, All, List, [], ◌++◌, length, refl, sym, ap, arith, Option, None, Some, IfSome, if◌then◌else◌, not, AllZip, false_from_ne_true, IfSome_then, All-nil}
 use Rattle.nfa_compiler.specs.Common.{SameCaptures}
-use Rattle.required_literal.specs.Required.{OccursIn}
-use Rattle.text_lines.specs.Lines.{HasBytes, Lacks, PassesRecords}
-use Rattle.text_lines.specs.declared.passed.Passed.{Passed}
-use Rattle.text_lines.proofs.LineLemmas.{bytes-record, occurs-record}
+use Rattle.nfa_grep.specs.Required.{OccursIn}
+use Rattle.program_text.specs.Lines.{HasBytes, Lacks, PassesRecords}
+use Rattle.program_text.specs.declared.passed.Passed.{Passed}
+use Rattle.program_text.proofs.LineLemmas.{bytes-record, occurs-record}
 use Rattle.nfa_grep.specs.Going.{HasPassed, printed_later, Groups, LineStart}
 use Rattle.nfa_grep.specs.Printed.{Item, IsNeeded, is_selected, text_of}
 use Rattle.nfa_grep.specs.Meant.{is_found, Options, Re}

@@ -2,7 +2,7 @@
 use Rattle.nfa_paths.proofs.Common.{drop_split, ◌≡◌, ◌∙◌, ℕ, ◌+◌, ◌-◌, ◌<◌, Bool, false, List, [], ◌∷◌, ◌++◌, append_assoc, ap, arith, cases_Bool, common_steps, drop, get_or, inl, inr, length, map, refl, subst, sym, IfSome, Option, None, Some, ◌==◌, if◌then◌else◌, not, slice_range, drop_more, take_all, Found, found_of, whole, Match, true, decimal, join_with_byte, length-map, map-append, ◌≤◌, append-nil, All-drop, All-head, All-tail, All-take}
 use Rattle.grep_options.specs.Colours.{is_code}
 use Rattle.nfa_search_base.specs.Common.{AreDisjoint, IsInside}
-use Rattle.text_lines.specs.Lines.{with_end}
+use Rattle.program_text.specs.Lines.{with_end}
 use Rattle.nfa_grep.specs.Meant.{span_of, Options, Re}
 use Rattle.nfa_grep.specs.Printed.{coloured_found, line_colour, match_colour, painted_line, text_of, colon, comma, is_selected, shown_if_selected, shown_matches, shown_whole}
 use Rattle.nfa_grep.specs.Painted.{AreCodes, Colours, HasPainted, clear, code_of, end_of, in_colours, last_part, matched_from, painted_text, parts_from, printed_to, escape, start_of, HasNoSequence, outside, uncoloured}

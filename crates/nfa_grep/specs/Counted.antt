@@ -4,7 +4,7 @@ use Rattle.std.specs.List.{count_by}
 use Rattle.std.specs.Io.KnownBytes.{Keeps}
 use Rattle.bstr.specs.Records.{records}
 use Rattle.nfa_paths.specs.Common.{concat}
-use Rattle.text_lines.specs.Lines.{AreFirstRecords, HasNoRecord}
+use Rattle.program_text.specs.Lines.{AreFirstRecords, HasNoRecord}
 use Rattle.nfa_grep.specs.Going.{StopsAfter}
 use Rattle.nfa_grep.specs.Meant.{Options, Re}
 use Rattle.nfa_grep.specs.Printed.{is_selected, searched, selected_count}

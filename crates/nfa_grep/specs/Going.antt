@@ -3,7 +3,7 @@ use Rattle.std.specs.Prelude.{◌≡◌, ℕ, ◌+◌, ◌-◌, ◌<◌, ◌≤�
 use Rattle.std.specs.Io.KnownBytes.{Keeps}
 use Rattle.bstr.specs.Records.{records}
 use Rattle.nfa_paths.specs.Common.{concat, Appends}
-use Rattle.text_lines.specs.Lines.{AreFirstRecords, HasNoRecord, TakesRecord}
+use Rattle.program_text.specs.Lines.{AreFirstRecords, HasNoRecord, TakesRecord}
 use Rattle.nfa_grep.specs.Meant.{Options, Re}
 use Rattle.nfa_grep.specs.Printed.{Context, Item, Report, context_of, grouped, is_selected, item_of, items, left_after, limit_of, output, printed, printed_if, read, read_in, selected_count}
 pub use Rattle.nfa_grep.specs.declared.groups.Groups.{Groups}

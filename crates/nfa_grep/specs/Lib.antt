@@ -3,3 +3,4 @@ pub mod Going
 pub mod Meant
 pub mod Painted
 pub mod Printed
+pub mod Required

@@ -3,8 +3,8 @@ use Rattle.std.specs.Prelude.{◌≡◌, ℕ, ◌+◌, ◌-◌, Bool, true, fals
 use Rattle.std.specs.List.{count_by, flat_map, join_with_byte, list_any}
 use Rattle.bstr.specs.Records.{records}
 use Rattle.nfa_engines.specs.PatternSets.{patterns_of}
-use Rattle.required_literal.specs.Required.{OccursIn}
-use Rattle.text_lines.specs.Lines.{HasBytes, line_feed, record_content, with_end}
+use Rattle.nfa_grep.specs.Required.{OccursIn}
+use Rattle.program_text.specs.Lines.{HasBytes, line_feed, record_content, with_end}
 pub use Rattle.grep_options.specs.Reports.{context_of, limit_of, shows}
 pub use Rattle.grep_options.specs.declared.options.Context.{Context}
 pub use Rattle.grep_options.specs.declared.options.Report.{Report}

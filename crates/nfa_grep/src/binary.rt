@@ -9,10 +9,10 @@ use crate::line::append_summary;
 use crate::progress::erase_line;
 use crate::search::print_matches;
 use grep_options::options::{BinaryFiles, Options, Report, Request};
+use program_text::failure::Failure;
+use program_text::stream::write_bytes;
 use std::alloc::Global;
 use std::io::{BufRead, Write};
-use text_lines::failure::Failure;
-use text_lines::stream::write_bytes;
 
 /// Searches an input. If it is not text, it has no lines, or they are not printed, but a message on standard error if
 /// one is selected.

@@ -5,12 +5,12 @@ ghost use Rattle.nfa_grep.specs.Counted.{CountsLines, CountsNext, IsCounted};
 ghost use Rattle.nfa_grep.specs.Meant.{Mean};
 
 use crate::grep::Grep;
+use program_text::failure::Failure;
+use program_text::held::first_record;
+use program_text::passed::pass_records;
+use program_text::stream::read_record;
 use std::alloc::Global;
 use std::io::BufRead;
-use text_lines::failure::Failure;
-use text_lines::held::first_record;
-use text_lines::passed::pass_records;
-use text_lines::stream::read_record;
 
 /// How many lines were searched, how many bytes they have, and how many of them are selected.
 #[derive(Clone, Copy)]

@@ -2,10 +2,10 @@
 use grep_options::error::OptionsError;
 use nfa_compiler::{CompileError, OnlyPattern};
 use nfa_engines::error::SearchError;
+use program_text::failure::Failure;
 use std::alloc::{AllocError, AllocFailed};
 use std::io::ErrorKind;
 use std::{fmt, io};
-use text_lines::failure::Failure;
 
 /// Why nothing, or not all, was searched.
 #[derive(Drop)]

@@ -13,11 +13,11 @@ use grep_options::output::is_output;
 use grep_options::patterns::{all_patterns, read_files};
 use grep_options::syntax::need_same;
 use grep_options::walk::is_folder;
+use program_text::failure::Failure;
 use std::env::FillError;
 use std::io::{BufWriter, IsTerminal, Write};
 use std::rt::Env;
 use std::{fmt, io};
-use text_lines::failure::Failure;
 
 /// Why an input was not searched: nothing is opened by a name that is not UTF-8.
 const NOT_TEXT: &str = "cannot read the input: its name is not UTF-8";

@@ -16,10 +16,10 @@ use crate::which::Which;
 use grep_options::options::Options;
 use nfa_compiler::{Parsed, laws};
 use nfa_meta::Regex;
+use program_text::line::record_content;
 use regex_search_core::Input;
 use std::alloc::Global;
 use std::marker::Model;
-use text_lines::line::record_content;
 
 /// What is searched for in each line, what is printed of a line that is selected, and bytes that each such line has. It
 /// owns the engine, and a second one that finds the numbers of the patterns that match, if they are wanted.

@@ -4,9 +4,9 @@ use crate::grep::Grep;
 use crate::line::width_of;
 use grep_options::options::{BinaryFiles, Report, Request};
 use grep_options::output::{input_size, is_file_input};
+use program_text::failure::Failure;
 use std::fs;
 use std::io::{BufReader, Read, Write};
-use text_lines::failure::Failure;
 
 /// Searches the input of this name, and returns how many of the lines that were searched are selected.
 pub fn search_named<W: Write>(

@@ -14,6 +14,7 @@ mod needed;
 mod paint;
 mod pattern;
 mod progress;
+mod required_literal;
 mod search;
 mod walk;
 mod which;

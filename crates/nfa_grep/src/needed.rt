@@ -6,9 +6,9 @@ ghost use Rattle.regex_syntax.specs.Captures.{SameCaptures};
 ghost use Rattle.nfa_compiler.specs.Compiled.{res_of};
 ghost use Rattle.nfa_grep.specs.Printed.{IsNeeded};
 
+use crate::required_literal::{laws, required_literal};
 use grep_options::options::Options;
 use nfa_compiler::Parsed;
-use required_literal::{laws, required_literal};
 use std::alloc::{AllocError, Global};
 
 /// Returns bytes that are in each line that is selected with these options and patterns. They are empty if there are

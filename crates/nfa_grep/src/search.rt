@@ -10,12 +10,12 @@ use crate::grep::Grep;
 use crate::groups::Groups;
 use crate::line::{Place, append_summary};
 use grep_options::options::Request;
+use program_text::failure::Failure;
+use program_text::held::first_record;
+use program_text::passed::pass_records;
+use program_text::stream::{read_record, write_bytes};
 use std::alloc::Global;
 use std::io::{BufRead, Write};
-use text_lines::failure::Failure;
-use text_lines::held::first_record;
-use text_lines::passed::pass_records;
-use text_lines::stream::{read_record, write_bytes};
 
 /// Where a line is: its number, from 1, and the offset of its first byte.
 #[derive(Clone, Copy)]

@@ -2,8 +2,8 @@
 use Rattle.std.proofs.Common.{◌≡◌, ◌∙◌, ℕ, ◌+◌, ◌≤◌, arith, List, ◌++◌, refl, sym, subst, append_assoc, append-nil, Option, None, Some, [], ◌∷◌}
 use Rattle.std.specs.Io.KnownBytes.{Appends}
 use Rattle.std.proofs.KnownBytes.{Appends-nil, Appends-trans}
-use Rattle.text_lines.specs.Lines.{lines_of, HasNoRecord, TakesRecord, line_feed}
-use Rattle.text_lines.proofs.LineLemmas.{first-line, none-left}
+use Rattle.program_text.specs.Lines.{lines_of, HasNoRecord, TakesRecord, line_feed}
+use Rattle.program_text.proofs.LineLemmas.{first-line, none-left}
 use Rattle.replacer.specs.Changes.{AreChanges, Becomes, HasChanged, HasChanges, change, changed_count}
 use Rattle.replacer.specs.declared.changes.Style.{Style}
 use Rattle.replacer.specs.declared.command.Request.{Request}

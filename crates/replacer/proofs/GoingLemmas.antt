@@ -2,8 +2,8 @@
 use Rattle.std.proofs.Common.{◌≡◌, ◌∙◌, ℕ, arith, List, ◌++◌, refl, ap, append_assoc, append-nil, Option, None, Some, IfSome, [], ◌==◌, if◌then◌else◌}
 use Rattle.std.specs.Io.KnownBytes.{Appends, Keeps, append_known, prepend_known}
 use Rattle.std.proofs.KnownBytes.{Appends-nil, Appends-trans, prepend_known-nil}
-use Rattle.text_lines.specs.Lines.{lines_of, HasNoRecord, TakesRecord, line_feed}
-use Rattle.text_lines.proofs.LineLemmas.{first-line, none-left}
+use Rattle.program_text.specs.Lines.{lines_of, HasNoRecord, TakesRecord, line_feed}
+use Rattle.program_text.proofs.LineLemmas.{first-line, none-left}
 use Rattle.nfa_compiler.specs.Patterns.{PatternHit}
 use Rattle.replacer.specs.Fillings.{Groups}
 use Rattle.replacer.specs.Printed.{HasWritten, feed_of, left_by, lines_shown, shown, without_feed, Prints}

@@ -2,7 +2,7 @@
 use Rattle.std.specs.Prelude.{ℕ, ◌+◌, ◌≡◌, Bool, List, [], ◌∷◌, ◌++◌, Option, Some, IfSome, decimal, if◌then◌else◌}
 use Rattle.std.specs.Str.{bytes_eq}
 use Rattle.std.specs.Io.KnownBytes.{Appends}
-use Rattle.text_lines.specs.Lines.{lines_of}
+use Rattle.program_text.specs.Lines.{lines_of}
 use Rattle.replacer.specs.Printed.{Prints, without_feed}
 use Rattle.replacer.specs.declared.changes.Side.{Side}
 use Rattle.replacer.specs.declared.changes.Side.TheVariants.{Before, After}

@@ -4,7 +4,7 @@ use Rattle.std.specs.Io.BufRead.{ends_with_byte, strip_last}
 use Rattle.std.specs.List.{AllZip}
 use Rattle.nfa_compiler.specs.Common.{Appends, Captured, Re, ReadsAsText, escaped_text, PatternHit, IsOfOneText, NamesText}
 use Rattle.nfa_compiler.specs.declared.error.CompileError.{CompileError}
-use Rattle.text_lines.specs.Lines.{line_feed, lines_of}
+use Rattle.program_text.specs.Lines.{line_feed, lines_of}
 use Rattle.nfa_meta.specs.ChoiceState.{ChoiceState}
 use Rattle.nfa_meta.specs.Filled.{AreAllCaught}
 use Rattle.nfa_meta.specs.declared.interpolate.TemplateError.{TemplateError}

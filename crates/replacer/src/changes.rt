@@ -7,10 +7,10 @@ ghost use Rattle.replacer.specs.Changes.{marked};
 use crate::job::Job;
 use crate::line::Line;
 use itoa::Buffer;
+use program_text::failure::Failure;
+use program_text::stream::{read_line, write_bytes};
 use std::alloc::{AllocError, Global};
 use std::io::{BufRead, Write};
-use text_lines::failure::Failure;
-use text_lines::stream::{read_line, write_bytes};
 
 /// How changes are printed.
 #[derive(Clone, Copy)]

@@ -1,7 +1,7 @@
 //! Why a file was not replaced.
+use program_text::failure::Failure;
 use std::alloc::AllocError;
 use std::io;
-use text_lines::failure::Failure;
 use thiserror::Error;
 
 /// Why a file was not replaced. It is as it was.

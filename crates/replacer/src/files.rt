@@ -1,11 +1,11 @@
 //! The inputs that the arguments name.
 use crate::changes::{Style, print_changes};
 use crate::job::Job;
-use option_values::output::shown_name;
+use program_text::failure::Failure;
+use program_text::output::shown_name;
 use std::alloc::{AllocError, Global};
 use std::io::{BufReader, BufWriter, Read, Write};
 use std::{fs, io};
-use text_lines::failure::Failure;
 
 /// What is printed of the inputs.
 #[derive(Clone, Copy)]

@@ -3,9 +3,9 @@ ghost use Rattle.std.specs.Prelude.{◌≡◌, IfOk};
 ghost use Rattle.replacer.specs.Printed.{Prints};
 
 use crate::job::Job;
+use program_text::failure::Failure;
 use std::alloc::Global;
 use std::io::{BufReader, BufWriter, Read, Write};
-use text_lines::failure::Failure;
 
 /// Reads an input to its end, and writes what is printed of it to the file. Returns the file, to which all is written.
 ///

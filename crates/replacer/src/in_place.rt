@@ -2,10 +2,10 @@
 use crate::fault::Fault;
 use crate::filled::write_printed;
 use crate::job::Job;
+use program_text::failure::Failure;
 use std::fs::{File, Metadata, OpenOptions};
 use std::os::unix::fs::{MetadataExt, OpenOptionsExt, fchown};
 use std::{fs, io};
-use text_lines::failure::Failure;
 
 /// The new files of one file have at most this many names.
 const NAME_COUNT: u32 = 100;

@@ -5,7 +5,7 @@ ghost use Rattle.regex_hir.specs.Re.{Re};
 ghost use Rattle.nfa_engines.specs.Paths.{is_utf8_empty};
 ghost use Rattle.nfa_compiler.specs.Patterns.{PatternHit};
 ghost use Rattle.nfa_meta.specs.RegexState.{KeepsRegex};
-ghost use Rattle.text_lines.specs.Lines.{lines_of};
+ghost use Rattle.program_text.specs.Lines.{lines_of};
 ghost use Rattle.replacer.specs.Hits.{AreHitsOf, SearchesFor, Sought};
 ghost use Rattle.replacer.specs.Printed.{IsFixedText, IsMisused, Prints, lines_shown, shown};
 
@@ -17,12 +17,12 @@ use crate::pattern::regex_of;
 use crate::shown::show;
 use nfa_compiler::{CompileError, OnlyPattern, laws};
 use nfa_meta::Regex;
+use program_text::failure::Failure;
+use program_text::stream::{read_line, write_bytes};
 use std::alloc::{AllocFailed, Global};
 use std::fmt;
 use std::io::{BufRead, ErrorKind, Write};
 use std::marker::Model;
-use text_lines::failure::Failure;
-use text_lines::stream::{read_line, write_bytes};
 
 /// A template that cannot be read, or names a group that its pattern does not have.
 #[derive(Clone, Copy, Debug)]

@@ -30,12 +30,12 @@ use crate::job::{Job, Mistake};
 use crate::options::parse;
 use crate::stretches::all_stretches;
 use anyhow::Result;
-use option_values::output::{IS_OUTPUT, first_output, shown_name};
-use option_values::words::{arguments, words};
+use program_text::failure::Failure;
+use program_text::output::{IS_OUTPUT, first_output, shown_name};
+use program_text::words::{arguments, words};
 use std::fmt::Display;
 use std::io::{ErrorKind, IsTerminal};
 use std::process::ExitCode;
-use text_lines::failure::Failure;
 
 /// The arguments, the pattern or the template are wrong, or an input, the output or memory failed.
 const FAILED: u8 = 2;

@@ -1,5 +1,5 @@
 //! What is wrong with arguments.
-use option_values::words::NotText;
+use program_text::words::NotText;
 use std::alloc::{AllocError, AllocFailed};
 use std::fmt;
 

@@ -1,8 +1,8 @@
 //! What the arguments of the command line ask for.
 use crate::command::{Arguments, Asked, Settings, Target, Task};
 use crate::misuse::Misuse;
-use option_values::parted::part_words;
-use option_values::words::{Word, texts};
+use program_text::parted::part_words;
+use program_text::words::{Word, texts};
 use std::alloc::{AllocError, Global};
 
 /// The options that have a value, which is the next word.

@@ -10,7 +10,7 @@ ghost use Rattle.nfa_grep.specs.Meant.{Mean, all_found, is_found, span_of};
 ghost use Rattle.nfa_grep.specs.Printed.{coloured_found, has_colours, has_text, is_selected, line_colour, mark_of};
 ghost use Rattle.nfa_grep.specs.Printed.{match_colour, painted_line, piece, shown, shown_if_selected, shown_matches};
 ghost use Rattle.nfa_grep.specs.Printed.{shown_whole, text_of};
-ghost use Rattle.text_lines.specs.Lines.{with_end};
+ghost use Rattle.program_text.specs.Lines.{with_end};
 
 use crate::grep::Grep;
 use crate::line::{Place, append_head};
@@ -18,9 +18,9 @@ use crate::paint::{Colour, LineColours, append_matched, append_painted, code_of}
 use grep_options::colours::Colours;
 use grep_options::options::Options;
 use nfa_compiler::laws;
+use program_text::line::{append_record, record_content};
 use regex_search_core::{Input, Match};
 use std::alloc::AllocError;
-use text_lines::line::{append_record, record_content};
 
 impl<'p, 'c> Grep<'p, 'c> {
     /// Returns all matches in the text of a line, from left to right.

@@ -1,8 +1,8 @@
 -- The record at the start of what the reader holds is the next line.
 use Rattle.std.proofs.Common.{◌≡◌, ◌∙◌, eqb-true, length, subst, sym, take}
 use Rattle.std.specs.Io.BufRead.{FillKeeps}
-use Rattle.text_lines.specs.Lines.{line_feed}
-use Rattle.text_lines.proofs.LineLemmas.{none-shown, takes-shown}
+use Rattle.program_text.specs.Lines.{line_feed}
+use Rattle.program_text.proofs.LineLemmas.{none-shown, takes-shown}
 use Rattle.log_extractor.proofs.count.count_next.Goals as goal
 
 pub returns-then-is_empty-clause-counted : goal.returns-then-is_empty-clause-counted

@@ -1,6 +1,6 @@
 -- The run goes on by a line, and ends if nothing is left to read.
 use Rattle.nfa_paths.proofs.Common.{rules, ◌≡◌, ◌||◌, ap, [], ◌∷◌, append-nil, is_some, or-false, Appends-trans, flat_map-append, list_any-append}
-use Rattle.text_lines.specs.Lines.{content}
+use Rattle.program_text.specs.Lines.{content}
 use Rattle.log_extractor.specs.Selected.{row_in}
 use Rattle.log_extractor.specs.Printed.{shown_line}
 use Rattle.log_extractor.proofs.GoingLemmas.{taken-all, taken-more}

@@ -1,7 +1,7 @@
 -- The line that was read is counted if it is selected.
 use Rattle.std.proofs.Common.{rules, ◌≡◌, ◌∙◌, ℕ, Bool, IfSome, ap, cond, inl, inr, subst, sym}
 use Rattle.nfa_paths.proofs.Common.{cases_Bool}
-use Rattle.text_lines.specs.Lines.{TakesRecord}
+use Rattle.program_text.specs.Lines.{TakesRecord}
 use Rattle.grep_options.specs.declared.options.Options.{Options}
 use Rattle.nfa_grep.specs.Counted.{HasCounted}
 use Rattle.nfa_grep.specs.Printed.{is_selected}

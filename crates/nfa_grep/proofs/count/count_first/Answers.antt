@@ -1,7 +1,7 @@
 -- One more line of the text is searched.
 use Rattle.std.proofs.Common.{rules, ◌≡◌, ◌∙◌, ◌+◌, ◌-◌, ◌<◌, ◌≤◌, ◌++◌, ap, arith, cond, drop, length, length-drop, refl, take, take_all}
 use Rattle.std.proofs.Math.Seq.{take-add}
-use Rattle.text_lines.specs.Lines.{IsRecord}
+use Rattle.program_text.specs.Lines.{IsRecord}
 use Rattle.nfa_grep.specs.Counted.{Counted}
 use Rattle.nfa_grep.specs.Printed.{is_selected}
 use Rattle.nfa_grep.proofs.CountedLemmas.{is-more, is-none}

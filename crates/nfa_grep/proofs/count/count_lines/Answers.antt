@@ -1,7 +1,7 @@
 -- Counting goes on by lines that are passed, and by lines that are searched.
 use Rattle.std.proofs.Common.{◌≡◌, ◌+◌, ◌-◌, ◌<◌, arith, refl, rules, subst, sym}
 use Rattle.nfa_paths.proofs.Common.{IfSome_then}
-use Rattle.text_lines.specs.Lines.{PassesRecords}
+use Rattle.program_text.specs.Lines.{PassesRecords}
 use Rattle.nfa_grep.specs.Meant.{Grepping, Mean}
 use Rattle.nfa_grep.proofs.CountedLemmas.{counting-end, counting-init, counting-on, counting-stop, has-passed}
 use Rattle.nfa_grep.proofs.count.count_lines.Goals as goal

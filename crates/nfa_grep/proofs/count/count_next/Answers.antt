@@ -1,7 +1,7 @@
 -- What the reader shows has no line at its end; else the lines that were counted there were taken.
 use Rattle.std.proofs.Common.{◌≡◌, ◌∙◌, eqb-true, length, subst, sym}
 use Rattle.std.specs.Io.BufRead.{FillKeeps}
-use Rattle.text_lines.proofs.LineLemmas.{none-shown}
+use Rattle.program_text.proofs.LineLemmas.{none-shown}
 use Rattle.nfa_grep.proofs.count.count_next.Goals as goal
 
 pub returns-then-is_empty-2-clause-counted : goal.returns-then-is_empty-2-clause-counted

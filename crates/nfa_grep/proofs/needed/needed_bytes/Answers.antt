@@ -1,8 +1,8 @@
 -- A line that is selected has a match, unless the selected lines are those without one.
 use Rattle.nfa_paths.proofs.Common.{◌≡◌, List, ℕ, false, subst, sym, IfOk-weaker, whole}
 use Rattle.nfa_compiler.specs.Common.{res_of}
-use Rattle.required_literal.specs.Required.{AreRequired, OccursIn}
-use Rattle.required_literal.proofs.PartLemmas.{occurs-none}
+use Rattle.nfa_grep.specs.Required.{AreRequired, OccursIn}
+use Rattle.nfa_grep.proofs.PartLemmas.{occurs-none}
 use Rattle.nfa_grep.proofs.NeededLemmas.{needed-of}
 use Rattle.nfa_grep.proofs.needed.needed_bytes.Goals as goal
 

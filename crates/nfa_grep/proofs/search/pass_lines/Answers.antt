@@ -1,6 +1,6 @@
 -- Records without bytes that are needed are lines that are not selected.
 use Rattle.std.proofs.Common.{rules, subst}
-use Rattle.text_lines.specs.Lines.{PassesRecords}
+use Rattle.program_text.specs.Lines.{PassesRecords}
 use Rattle.grep_options.specs.declared.options.Options.{Options}
 use Rattle.nfa_grep.proofs.NeededLemmas.{passes-lines, passes-nothing}
 use Rattle.nfa_grep.proofs.search.pass_lines.Goals as goal

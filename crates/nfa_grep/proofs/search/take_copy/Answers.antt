@@ -1,6 +1,6 @@
 -- The line that was read is the next one.
 use Rattle.std.proofs.Common.{rules, subst}
-use Rattle.text_lines.specs.Lines.{HasNoRecord, TakesRecord}
+use Rattle.program_text.specs.Lines.{HasNoRecord, TakesRecord}
 use Rattle.grep_options.specs.declared.options.Options.{Options}
 use Rattle.nfa_grep.proofs.search.take_copy.Goals as goal
 

@@ -1,0 +1,3 @@
+pub mod LineLemmas
+mod PartLemmas
+mod SplitLemmas

@@ -1,0 +1,3 @@
+pub mod Lines
+pub mod Parting
+pub mod Splitting
