@@ -47,7 +47,7 @@ GROUPS = [
     ('What a compiled pattern finds, at the values of a call', 'nfa_compiler::calls', 'nfa_compiler', '',
      'match_of_text is_match_of_text matches_of_text match_in_str is_match_in_str matches_in_str named_group_in_str '
      'named_group_of_text'),
-    ('What a written pattern finds', 'written_patterns::calls', 'written_patterns', '',
+    ('What a written pattern finds', 'nfa_compiler::written', 'nfa_compiler', '',
      'compile match_of_pattern is_match_of_pattern matches_of_pattern named_group_of_pattern escaped_text_finds_itself'),
 ]
 

@@ -1,7 +1,7 @@
 -- What the grammar reads in the patterns of `validate.rt`.
 use Rattle.nfa_compiler.specs.Written.{byte_syntax}
-use Rattle.written_patterns.proofs.Denotes.{IsWhole, any, branch, digit, end, last, on_literals, one, run, text, times, whole, ◌and_then◌, ◌before◌, ◌or◌}
-use Rattle.written_patterns.proofs.Octets.{octet, positive}
+use Rattle.nfa_compiler.proofs.Denotes.{IsWhole, any, branch, digit, end, last, on_literals, one, run, text, times, whole, ◌and_then◌, ◌before◌, ◌or◌}
+use Rattle.nfa_compiler.proofs.Octets.{octet, positive}
 use Rattle.examples.specs.Shapes.{IsDate, IsIpv4, IsVersion}
 use Rattle.examples.specs.declared.cookbook.validate.TheConstants.{DATE, IPV4, VERSION}
 

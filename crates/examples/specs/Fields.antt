@@ -2,7 +2,7 @@
 use Rattle.std.specs.Prelude.{ℕ, Bool, false, List, Option, None, Some, option_and_then, option_map, slice_range, if◌then◌else◌}
 use Rattle.std.specs.Str.{bytes_eq, is_utf8}
 use Rattle.nfa_engines.specs.Span.{Span}
-use Rattle.written_patterns.specs.Patterns.{named_span_in}
+use Rattle.nfa_compiler.specs.WrittenPatterns.{named_span_in}
 
 -- a pattern, and the name of one of its groups
 pub record FieldOf : Type 0 where

@@ -2,7 +2,7 @@
 use Rattle.std.specs.Prelude.{ℕ, List, codes}
 use Rattle.std.specs.Char.{is_ascii_digit}
 use Rattle.std.specs.Int.{is_in_range}
-use Rattle.written_patterns.specs.Texts.{Bytes, BytesOrMore, DecimalBelow, Exactly, Times, ◌followed_by◌, ◌or_else◌}
+use Rattle.nfa_compiler.specs.Texts.{Bytes, BytesOrMore, DecimalBelow, Exactly, Times, ◌followed_by◌, ◌or_else◌}
 
 -- n digits
 abbrev pub Digits : ℕ → List ℕ → Type 0

@@ -17,3 +17,9 @@ pub mod CharacterLemmas
 pub mod StrLemmas
 pub mod WrittenLemmas
 pub mod Literals
+pub mod Spelling
+pub mod ReadLemmas
+pub mod Denotes
+pub mod Octets
+mod EscapeLemmas
+mod Examples

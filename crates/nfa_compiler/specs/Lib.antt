@@ -6,3 +6,5 @@ pub mod Compiled
 pub mod Loops
 pub mod Written
 pub mod Laws
+pub mod Texts
+pub mod WrittenPatterns

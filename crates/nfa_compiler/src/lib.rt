@@ -22,6 +22,7 @@ mod loops;
 mod reading;
 mod states;
 mod syntax_error;
+pub mod written;
 
 pub use compiler::Compiler;
 pub use config::Config;

@@ -8,7 +8,7 @@ use nfa_engines::{Captures, Input};
 use std::alloc::Global;
 use std::marker::Model;
 use std::str;
-use written_patterns::calls::{compile, named_group_of_pattern};
+use nfa_compiler::written::{compile, named_group_of_pattern};
 
 /// A field of lines. A contract sees the pattern and the name of its group.
 #[derive(Drop)]
@@ -24,7 +24,7 @@ impl Model for Field {
     ghost use Rattle.std.specs.Prelude.{◌≡◌, None, length};
     ghost use Rattle.nfa_engines.specs.Engines.{Fits};
     ghost use Rattle.nfa_engines.specs.Groups.{slot_count};
-    ghost use Rattle.written_patterns.specs.Patterns.{IsOfPattern};
+    ghost use Rattle.nfa_compiler.specs.WrittenPatterns.{IsOfPattern};
     ghost use Rattle.examples.specs.Fields.{FieldOf};
 
     ghost Value = { FieldOf };

@@ -4,7 +4,7 @@ use nfa_engines::pikevm::{Cache, PikeVM};
 use nfa_engines::{Input, Match};
 use std::alloc::Global;
 use std::marker::Model;
-use written_patterns::calls::{compile, is_match_of_pattern, matches_of_pattern};
+use nfa_compiler::written::{compile, is_match_of_pattern, matches_of_pattern};
 
 /// A compiled pattern. A contract sees its text.
 #[derive(Drop)]
@@ -17,7 +17,7 @@ pub struct Matcher {
 impl Model for Matcher {
     ghost use Rattle.std.specs.Prelude.{◌≡◌, List, None, ℕ};
     ghost use Rattle.nfa_engines.specs.Engines.{Fits};
-    ghost use Rattle.written_patterns.specs.Patterns.{IsOfPattern};
+    ghost use Rattle.nfa_compiler.specs.WrittenPatterns.{IsOfPattern};
 
     ghost Value = { List ℕ };
 
@@ -33,7 +33,7 @@ impl Matcher {
     ghost use Rattle.nfa_engines.specs.Lists.{AreDisjoint};
     ghost use Rattle.nfa_engines.specs.Search.{whole};
     ghost use Rattle.nfa_compiler.specs.Patterns.{found_by};
-    ghost use Rattle.written_patterns.specs.Patterns.{all_matches, has_match};
+    ghost use Rattle.nfa_compiler.specs.WrittenPatterns.{all_matches, has_match};
 
     /// Compiles the pattern.
     pub fn new(alloc: Global, pattern: &'static str) -> Result<Matcher>

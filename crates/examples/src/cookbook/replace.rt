@@ -4,7 +4,7 @@ ghost use Rattle.nfa_engines.specs.Found.{found_of};
 ghost use Rattle.nfa_engines.specs.Lists.{AreDisjoint};
 ghost use Rattle.nfa_engines.specs.Search.{whole};
 ghost use Rattle.nfa_compiler.specs.Patterns.{found_by};
-ghost use Rattle.written_patterns.specs.Patterns.{all_matches};
+ghost use Rattle.nfa_compiler.specs.WrittenPatterns.{all_matches};
 ghost use Rattle.nfa_meta.specs.Replaced.{replaced};
 
 use crate::cookbook::matcher::Matcher;

@@ -1,7 +1,7 @@
 -- The lines so far in which the pattern matches.
 use Rattle.std.proofs.Common.{◌≡◌, take}
 use Rattle.std.specs.List.{filter}
-use Rattle.written_patterns.specs.Patterns.{has_match}
+use Rattle.nfa_compiler.specs.WrittenPatterns.{has_match}
 use Rattle.examples.proofs.cookbook.matcher.Matcher.matching.Given as goal
 
 abbrev pub invariant-loop-line : goal.invariant-loop-line

@@ -1,6 +1,6 @@
 -- The search finds the pattern, which matches whole texts.
 use Rattle.std.proofs.Common.{arith}
-use Rattle.written_patterns.proofs.Denotes.{bytes-of, found-whole}
+use Rattle.nfa_compiler.proofs.Denotes.{bytes-of, found-whole}
 use Rattle.examples.specs.Shapes.{IsIpv4}
 use Rattle.examples.specs.declared.cookbook.validate.TheConstants.{IPV4}
 use Rattle.examples.proofs.ShapeLemmas.{ipv4}

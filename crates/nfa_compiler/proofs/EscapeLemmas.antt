@@ -11,7 +11,7 @@ use Rattle.nfa_paths.proofs.Common.{refl, sym, ap, subst, arith, chars, option_a
 use Rattle.std.proofs.Common.{take-append-drop, take_at, true≢false, if◌then◌else◌}
 use Rattle.std.proofs.lemmas.Option.{none-some, same_Some}
 use Rattle.nfa_compiler.specs.Common.{Match, find, Re, accept, attempt, literal, Nested, Names, read, byte_syntax}
-use Rattle.written_patterns.specs.Patterns.{IsFirstPlace, Stands, first_match}
+use Rattle.nfa_compiler.specs.WrittenPatterns.{IsFirstPlace, Stands, first_match}
 
 -- where the bytes stand, a literal of them matches, and nowhere else
 has-bytes : (bytes hay : List ℕ) (i : ℕ) → Stands bytes hay i → has_bytes_at hay i bytes ≡ true

@@ -1,8 +1,8 @@
 -- The law of texts, of what the grammar reads.
 use Rattle.std.proofs.Common.{arith}
 use Rattle.nfa_compiler.proofs.CallLemmas.{bytes-of}
-use Rattle.written_patterns.proofs.ReadLemmas.{has-match}
-use Rattle.written_patterns.proofs.calls.is_match_of_pattern.Goals as goal
+use Rattle.nfa_compiler.proofs.ReadLemmas.{has-match}
+use Rattle.nfa_compiler.proofs.written.is_match_of_pattern.Goals as goal
 
 pub returns : goal.returns
 returns c =

@@ -1,8 +1,8 @@
 -- The captures are those of the first match of what the grammar reads.
 use Rattle.std.proofs.Common.{arith}
 use Rattle.nfa_compiler.proofs.CallLemmas.{bytes-of}
-use Rattle.written_patterns.proofs.ReadLemmas.{name-is}
-use Rattle.written_patterns.proofs.calls.named_group_of_pattern.Goals as goal
+use Rattle.nfa_compiler.proofs.ReadLemmas.{name-is}
+use Rattle.nfa_compiler.proofs.written.named_group_of_pattern.Goals as goal
 
 pub returns : goal.returns
 returns c =

@@ -3,12 +3,12 @@ use Rattle.regex_hir.proofs.FindLemmas.{IsFirst-of_first_between, find_complete,
 use Rattle.regex_syntax.proofs.TreeLaws.{same_refl}
 use Rattle.nfa_paths.proofs.Common.{◌≡◌, ◌∙◌, ℕ, ◌<◌, All, Bool, true, false, List, [], ◌∷◌, drop, length, map, Option, None, Some, refl, sym, ap, subst, arith, chars, ◌↔◌, IsSomeAnd, is_some, option_and_then, option_map, AllZip, Automaton, Found, group_named, slot_count, LeftmostFirst, IsAnswer, IsBoolAnswer, IsFindAnswer, whole, Captured, group_span, named_span}
 use Rattle.nfa_paths.proofs.MemberLemmas.{same_test}
-use Rattle.nfa_engines.specs.Lists.{AreMatches}
+use Rattle.nfa_search_base.specs.Lists.{AreMatches}
 use Rattle.nfa_compiler.proofs.SearchLemmas.{answer-is}
 use Rattle.nfa_compiler.proofs.CallLemmas.{call-answered, call-matches, call-name, groups-of-one, match-found}
 use Rattle.nfa_compiler.proofs.WrittenLemmas.{found-as-read}
 use Rattle.nfa_compiler.specs.Common.{Match, find, Re, accept, attempt, Nested, Names, read, SameTree, Reads, Parsed, IsMeant, IsTreeOf, IsNamed, written_span, AreOfHit, PatternHit, found_by, hit_by, IsReadAs, MatchesIn, byte_syntax}
-use Rattle.written_patterns.specs.Patterns.{IsOfPattern, all_matches, first_match, has_match, named_span_in}
+use Rattle.nfa_compiler.specs.WrittenPatterns.{IsOfPattern, all_matches, first_match, has_match, named_span_in}
 
 -- the pattern of an NFA is one
 some-read : (o : Option (Nested Re × Names)) (P : Nested Re × Names → Type 0) → IsSomeAnd o P

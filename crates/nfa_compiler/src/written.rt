@@ -1,5 +1,7 @@
-//! The NFA of a pattern, and laws for the values of a call. A law has no code: a caller that cites it after a search
-//! states what the search found, as a function of the pattern and the text.
+//! Patterns that are written out: the NFA of one, and laws for the values of a call. A law has no code: a caller that
+//! cites it after a search states what the search found, as a function of the pattern and the text
+//! (`specs/WrittenPatterns.antt`). `proofs/Denotes.antt` has lemmas on which whole texts a pattern matches, in words on
+//! texts (`specs/Texts.antt`).
 //!
 //! ```
 //! let vm = PikeVM::new_from_nfa(compile(alloc, "[0-9]+")?)?;
@@ -8,22 +10,23 @@
 //! is_match_of_pattern("[0-9]+", vm.get_nfa(), text, found);
 //! ```
 ghost use Rattle.std.specs.Prelude.{◌≡◌, IfOk, false, length, map, option_map};
-ghost use Rattle.nfa_engines.specs.Automaton.{IsAutomaton};
-ghost use Rattle.nfa_engines.specs.Found.{found_of};
-ghost use Rattle.nfa_engines.specs.Groups.{slot_count};
-ghost use Rattle.nfa_engines.specs.Lists.{AreMatches};
-ghost use Rattle.nfa_engines.specs.MatchKind.TheVariants.{LeftmostFirst};
-ghost use Rattle.nfa_engines.specs.Paths.{IsAnswer, IsBoolAnswer, IsFindAnswer};
-ghost use Rattle.nfa_engines.specs.Search.{whole};
-ghost use Rattle.nfa_engines.specs.Slots.{named_span};
+ghost use Rattle.thompson_nfa.specs.Automaton.{IsAutomaton};
+ghost use Rattle.regex_search_core.specs.Found.{found_of};
+ghost use Rattle.regex_search_core.specs.Groups.{slot_count};
+ghost use Rattle.nfa_search_base.specs.Lists.{AreMatches};
+ghost use Rattle.regex_search_core.specs.declared.search.MatchKind.TheVariants.{LeftmostFirst};
+ghost use Rattle.nfa_paths.specs.Paths.{IsAnswer, IsBoolAnswer, IsFindAnswer};
+ghost use Rattle.regex_search_core.specs.Search.{whole};
+ghost use Rattle.regex_search_core.specs.Slots.{named_span};
 ghost use Rattle.nfa_compiler.specs.Patterns.{found_by};
 ghost use Rattle.regex_syntax.specs.Verdict.{ReadsAsText};
-ghost use Rattle.written_patterns.specs.Patterns.{IsFirstPlace, IsOfPattern, all_matches, first_match, has_match};
-ghost use Rattle.written_patterns.specs.Patterns.{named_span_in};
+ghost use Rattle.nfa_compiler.specs.WrittenPatterns.{IsFirstPlace, IsOfPattern, all_matches, first_match, has_match};
+ghost use Rattle.nfa_compiler.specs.WrittenPatterns.{named_span_in};
 
-use nfa_compiler::{CompileError, Compiler, Config};
-use nfa_engines::{Captures, Match, NFA};
+use crate::{CompileError, Compiler, Config};
+use regex_search_core::{Captures, Match};
 use std::alloc::Global;
+use thompson_nfa::NFA;
 
 /// Makes the NFA of the pattern in byte mode.
 pub fn compile(alloc: Global, pattern: &str) -> Result<NFA, CompileError>

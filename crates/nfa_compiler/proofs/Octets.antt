@@ -2,8 +2,8 @@
 use Rattle.std.proofs.lemmas.Fmt.{decimal_digit, decimal_step}
 use Rattle.nfa_paths.proofs.Common.{is_ascii_digit, is_in_range, ◌≡◌, ◌∙◌, ℕ, zero, suc, ◌+◌, ◌-◌, ◌*◌, ◌/◌, ◌%◌, ◌<◌, ◌≤◌, Bool, true, List, [], ◌∷◌, ◌++◌, codes, refl, sym, ap, ap₂, subst, arith, inl, inr, ◌↔◌, decimal, cases_lt, nat_tests, All-cons, All-head, All-nil, All-tail}
 use Rattle.nfa_compiler.specs.Common.{Re, alt, byte_in, cat, empty, literal}
-use Rattle.written_patterns.specs.Texts.{Bytes, DecimalBelow, Exactly, ◌followed_by◌, ◌or_else◌}
-use Rattle.written_patterns.proofs.Denotes.{Denotes, IsClass, branch, class, class_of, digit, in_words, last, maybe, one, range, run, text, ◌and_then◌, ◌or◌}
+use Rattle.nfa_compiler.specs.Texts.{Bytes, DecimalBelow, Exactly, ◌followed_by◌, ◌or_else◌}
+use Rattle.nfa_compiler.proofs.Denotes.{Denotes, IsClass, branch, class, class_of, digit, in_words, last, maybe, one, range, run, text, ◌and_then◌, ◌or◌}
 
 -- decimal forms
 

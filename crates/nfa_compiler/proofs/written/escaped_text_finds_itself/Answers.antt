@@ -1,8 +1,8 @@
 -- The law of escaped texts.
 use Rattle.std.proofs.Common.{arith}
 use Rattle.nfa_compiler.proofs.CallLemmas.{bytes-of}
-use Rattle.written_patterns.proofs.EscapeLemmas.{escaped-first}
-use Rattle.written_patterns.proofs.calls.escaped_text_finds_itself.Goals as goal
+use Rattle.nfa_compiler.proofs.EscapeLemmas.{escaped-first}
+use Rattle.nfa_compiler.proofs.written.escaped_text_finds_itself.Goals as goal
 
 pub returns : goal.returns
 returns c =

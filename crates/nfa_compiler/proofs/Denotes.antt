@@ -4,14 +4,14 @@ use Rattle.regex_syntax.proofs.SetLemmas.{in_ranges-members}
 use Rattle.regex_syntax.proofs.TreeLaws.{◌then◌, alt-fail, alt_cong, byte_in_ascii, cat-empty, cat_cong, same_refl, same_sym}
 use Rattle.regex_syntax.proofs.Written.{same_group, same_plus}
 use Rattle.nfa_paths.proofs.Common.{is_ascii_digit, is_in_range, ◌≡◌, ◌∙◌, ℕ, zero, suc, ◌+◌, ◌<◌, ◌≤◌, Bool, true, List, [], ◌∷◌, ◌++◌, ◌==◌, map, length, drop, Option, None, Some, refl, sym, ap, subst, arith, append-nil, length-drop, inl, inr, ◌↔◌, All, IsSomeAnd, chars, is_some, option_and_then, list_any, cases_lt, true≢false, nat_tests, drop_all, slice_get-get_or, slice_get_past}
-use Rattle.written_patterns.specs.Patterns.{first_match, has_match}
-use Rattle.written_patterns.specs.Texts.{Bytes, BytesOrMore, Exactly, Times, ◌followed_by◌, ◌or_else◌}
+use Rattle.nfa_compiler.specs.WrittenPatterns.{first_match, has_match}
+use Rattle.nfa_compiler.specs.Texts.{Bytes, BytesOrMore, Exactly, Times, ◌followed_by◌, ◌or_else◌}
 pub use Rattle.nfa_compiler.proofs.CallLemmas.{bytes-of}
 unfoldable pub use Rattle.nfa_compiler.proofs.Literals.{on_literals}
 use Rattle.nfa_compiler.proofs.UnboundLemmas.{holds-at-start}
 use Rattle.nfa_compiler.specs.Common.{find, holds, holds_between, Matches, copies, up_to, Re, alt, byte_in, cat, char_in, empty, group, literal, look, plus, byte_before, Start, End, Nested, Names, read, SameTree, Set, members, Config, MatchesIn, byte_syntax}
-use Rattle.written_patterns.proofs.ReadLemmas.{find-same, finds-iff}
-use Rattle.written_patterns.proofs.Spelling.{IsAt, Spells, spells-alt, spells-byte, spells-cat, spells-group, spells-iff, spells-literal, spells-optional, spells-plus, spells-run, spells-star, spells-times, at-front, within}
+use Rattle.nfa_compiler.proofs.ReadLemmas.{find-same, finds-iff}
+use Rattle.nfa_compiler.proofs.Spelling.{IsAt, Spells, spells-alt, spells-byte, spells-cat, spells-group, spells-iff, spells-literal, spells-optional, spells-plus, spells-run, spells-star, spells-times, at-front, within}
 
 -- The grammar reads a part of a pattern as `a`. The part matches exactly the texts that are P.
 pub record Denotes (a : Re) (P : List ℕ → Type 0) : Type 0 where

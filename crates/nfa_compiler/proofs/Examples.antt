@@ -1,8 +1,8 @@
 -- A pattern for each row of the table in docs/COOKBOOK.md.
 use Rattle.nfa_paths.proofs.Common.{[], codes, is_ascii_digit}
 use Rattle.nfa_compiler.specs.Written.{byte_syntax}
-use Rattle.written_patterns.specs.Texts.{Bytes, BytesOrMore, Exactly, Times, ◌followed_by◌, ◌or_else◌}
-use Rattle.written_patterns.proofs.Denotes.{IsWhole, any, branch, digit, end, group_of, last, maybe, on_literals, one, run, some, text, times, whole, ◌and_then◌, ◌before◌, ◌or◌}
+use Rattle.nfa_compiler.specs.Texts.{Bytes, BytesOrMore, Exactly, Times, ◌followed_by◌, ◌or_else◌}
+use Rattle.nfa_compiler.proofs.Denotes.{IsWhole, any, branch, digit, end, group_of, last, maybe, on_literals, one, run, some, text, times, whole, ◌and_then◌, ◌before◌, ◌or◌}
 
 runs : IsWhole byte_syntax (codes "\\A[0-9][0-9]{4}[0-9]{1,3}[0-9]+[0-9]*\\z")
     (Bytes is_ascii_digit 1 1 followed_by Bytes is_ascii_digit 4 4 followed_by Bytes is_ascii_digit 1 3 followed_by

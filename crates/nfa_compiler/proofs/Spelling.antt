@@ -4,7 +4,7 @@ use Rattle.regex_class.specs.Ranges.{Range, in_ranges}
 use Rattle.nfa_compiler.specs.Common.{Matches, Rounds, one_round, next_round, copies, optional, up_to, Re, alt, byte_in, cat, empty, group, literal, plus, first}
 use Rattle.regex_hir.proofs.TextLemmas.{has_bytes_at_from, has_bytes_at_parts}
 use Rattle.regex_syntax.proofs.ReadingLemmas.{first-drop}
-use Rattle.written_patterns.specs.Texts.{Bytes, BytesOrMore, Exactly, Times, ◌followed_by◌, ◌or_else◌}
+use Rattle.nfa_compiler.specs.Texts.{Bytes, BytesOrMore, Exactly, Times, ◌followed_by◌, ◌or_else◌}
 
 -- the text stands in the haystack from i to j
 pub record IsAt (hay : List ℕ) (i j : ℕ) (text : List ℕ) : Type 0 where
