@@ -74,11 +74,9 @@ fn expect_alike(
     assert_eq!(rt; halves.as_slice(), wanted.as_slice(), "{input:?}");
     let set = overlapping(rt, some, &input)?;
     let wanted = overlapping(rt, all, &input)?;
-    let mut same = set.len() == wanted.len();
-    for pattern in wanted.iter() {
-        same = same && set.contains(pattern);
-    }
-    assert!(rt; same, "{input:?}");
+    assert_eq!(rt; set.len(), wanted.len(), "{input:?}");
+    let all_are_there = wanted.iter().all(|pattern| set.contains(pattern));
+    assert!(rt; all_are_there, "{input:?}");
     let pattern = some.search_slots(&input, &mut []);
     assert_eq!(rt; pattern, all.search_slots(&input, &mut []), "{input:?}");
     Ok(())

@@ -1,3 +1,4 @@
+mod ColourLemmas
 mod GlobLemmas
 mod OutcomeLemmas
 mod PathLemmas

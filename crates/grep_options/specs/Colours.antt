@@ -1,5 +1,5 @@
 -- The colours that a text names, as that of the environment variable `GREP_COLORS`.
-use Rattle.std.specs.Prelude.{ℕ, Bool, true, false, List, [], ◌∷◌, None, Option, Some, codes, if◌then◌else◌, nat_le, ◌==◌, ◌&&◌, ◌||◌}
+use Rattle.std.specs.Prelude.{◌≡◌, ℕ, Bool, true, false, List, [], ◌∷◌, None, Option, Some, codes, if◌then◌else◌, nat_le, ◌==◌, ◌&&◌, ◌||◌}
 use Rattle.std.specs.List.{list_all, slice_split}
 pub use Rattle.grep_options.specs.declared.colours.Colours.{Colours}
 pub use Rattle.grep_options.specs.declared.colours.Change.{Change}
@@ -58,6 +58,12 @@ is_code_byte byte = (byte == 59) || (nat_le 48 byte && nat_le byte 57)
 
 abbrev pub is_code : List ℕ → Bool
 is_code text = list_all is_code_byte text
+
+-- each colour is a code
+abbrev pub AreCodes : Palette → Type 0
+AreCodes palette =
+    list_all is_code (palette.selected_match ∷ palette.near_match ∷ palette.selected_line ∷ palette.near_line
+    ∷ palette.name ∷ palette.number ∷ palette.offset ∷ palette.separator ∷ []) ≡ true
 
 -- what a capability is for whose name has these two letters
 abbrev pub change_of_letters : ℕ → ℕ → Change

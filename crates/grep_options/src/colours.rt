@@ -1,7 +1,8 @@
 //! The colours of what is printed, and the text that names them: that of the environment variable `GREP_COLORS`.
 ghost use Rattle.std.specs.Prelude.{◌≡◌, IfOk, map, option_map};
-ghost use Rattle.grep_options.specs.Colours.{change_of, change_of_letters, is_code, is_code_byte, palette_in};
-ghost use Rattle.grep_options.specs.Colours.{palette_of, split_at, usual, with_all, with_code, with_flag, with_parts};
+ghost use Rattle.grep_options.specs.Colours.{AreCodes, change_of, change_of_letters, is_code, is_code_byte};
+ghost use Rattle.grep_options.specs.Colours.{palette_in, palette_of, split_at, usual, with_all, with_code, with_flag};
+ghost use Rattle.grep_options.specs.Colours.{with_parts};
 
 use std::alloc::{AllocError, Global};
 use std::env::FillError;
@@ -74,9 +75,10 @@ pub fn chosen_text(rt: &HostRuntime) -> Result<Vec<u8>, AllocError> {
 }
 
 /// Returns the colours that the text names. Its capabilities are between colons. The first one that is malformed, and
-/// those after it, do not count.
+/// those after it, do not count. Each colour is a code, so it ends no escape sequence of a terminal.
 pub fn colours_in<'c>(alloc: Global, text: &'c [u8]) -> Result<Colours<'c>, AllocError>
-    ensures { IfOk result (λ colours. palette_of colours ≡ palette_in text.entry.now) }
+    ensures named { IfOk result (λ colours. palette_of colours ≡ palette_in text.entry.now) }
+    ensures codes { IfOk result (λ colours. AreCodes (palette_of colours)) }
 {
     let capabilities = parts_of(alloc, b':', text)?;
     with_all(alloc, usual(), &capabilities)

@@ -3,7 +3,6 @@ pub mod LawLemmas
 pub mod MatchLemmas
 pub mod StatePathLemmas
 pub mod SearchLemmas
-
 -- On occurrences of bytes, the bytes that paths read first, bytes that each path reads, and searches for them.
 mod ByteLemmas
 pub mod FewLemmas
@@ -15,7 +14,6 @@ pub mod PositionLemmas
 pub mod ReachedLemmas
 pub mod RequiredLemmas
 pub mod WalkLemmas
-
 -- On paths and sets of an NFA with fewer captures.
 pub mod KeptLemmas
 pub mod SetLemmas

@@ -1,13 +1,14 @@
 -- What is printed of matches and of numbers, and colours around it.
 use Rattle.nfa_paths.proofs.Common.{drop_split, ◌≡◌, ◌∙◌, ℕ, ◌+◌, ◌-◌, ◌<◌, Bool, false, List, [], ◌∷◌, ◌++◌, append_assoc, ap, arith, cases_Bool, common_steps, drop, get_or, inl, inr, length, map, refl, subst, sym, IfSome, Option, None, Some, ◌==◌, if◌then◌else◌, not, slice_range, drop_more, take_all, Found, found_of, whole, Match, true, decimal, join_with_byte, length-map, map-append, ◌≤◌, append-nil, All-drop, All-head, All-tail, All-take}
-use Rattle.grep_options.specs.Colours.{is_code}
+use Rattle.grep_options.specs.Colours.{AreCodes, is_code, palette_of}
 use Rattle.nfa_search_base.specs.Common.{AreDisjoint, IsInside}
 use Rattle.program_text.specs.Lines.{with_end}
 use Rattle.nfa_grep.specs.Meant.{span_of, Options, Re}
 use Rattle.nfa_grep.specs.Printed.{coloured_found, line_colour, match_colour, painted_line, text_of, colon, comma, is_selected, shown_if_selected, shown_matches, shown_whole}
-use Rattle.nfa_grep.specs.Painted.{AreCodes, Colours, HasPainted, clear, code_of, end_of, in_colours, last_part, matched_from, painted_text, parts_from, printed_to, escape, start_of, HasNoSequence, outside, uncoloured}
+use Rattle.nfa_grep.specs.Painted.{Colours, HasPainted, clear, code_of, end_of, in_colours, last_part, matched_from, painted_text, parts_from, printed_to, escape, start_of, HasNoSequence, outside, uncoloured}
 use Rattle.nfa_grep.proofs.MeantLemmas.{all-none}
 use Rattle.nfa_grep.specs.declared.paint.Colour.{Colour}
+use Rattle.nfa_grep.specs.declared.paint.Colour.TheVariants as paint
 
 module _ (colours : Colours) (line hit : Colour) (text : List ℕ) where
   -- the text of the other parts
@@ -222,7 +223,20 @@ outside-nil : outside false [] ≡ []
 unfolding outside
 outside-nil = refl
 
-module _ (colours : Colours) (line hit : Colour) (codes-are : AreCodes colours) where
+-- what has a colour has one of the codes
+pub code-is : (colours : Colours) → AreCodes (palette_of colours) → (colour : Colour)
+    → is_code (code_of colours colour) ≡ true
+code-is colours are paint.Match = grind (arith, are)
+code-is colours are paint.NearMatch = grind (arith, are)
+code-is colours are paint.Line = grind (arith, are)
+code-is colours are paint.NearLine = grind (arith, are)
+code-is colours are paint.Name = grind (arith, are)
+code-is colours are paint.Number = grind (arith, are)
+code-is colours are paint.Offset = grind (arith, are)
+code-is colours are paint.Separator = grind (arith, are)
+
+module _ (colours : Colours) (line hit : Colour)
+    (codes-are : (colour : Colour) → is_code (code_of colours colour) ≡ true) where
   outside-gap : (text ys : List ℕ) → HasNoSequence text
       → outside false (start_of colours (code_of colours line) ++ (text ++ ys)) ≡ text ++ outside false ys
   outside-gap text ys none =

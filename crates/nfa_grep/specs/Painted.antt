@@ -1,7 +1,7 @@
 -- What is printed in colours: texts between two escape sequences of a terminal. Without these it is the text.
 use Rattle.std.specs.Prelude.{◌≡◌, ℕ, ◌-◌, ◌≤◌, All, Bool, false, true, not, ◌||◌, List, [], ◌∷◌, ◌++◌, IfSome, None, Option, Some, codes, drop, if◌then◌else◌, length, map, replicate, slice_range, flat_map, ◌==◌}
 pub use Rattle.grep_options.specs.declared.colours.Colours.{Colours}
-use Rattle.grep_options.specs.Colours.{is_code}
+use Rattle.grep_options.specs.Colours.{AreCodes, palette_of}
 use Rattle.nfa_search_base.specs.Common.{Found, found_of, whole, Match, AreDisjoint}
 use Rattle.nfa_grep.specs.declared.paint.Colour.{Colour}
 use Rattle.nfa_grep.specs.declared.paint.Colour.TheVariants as paint
@@ -127,17 +127,14 @@ outside false (byte ∷ bytes) =
 abbrev pub HasNoSequence : List ℕ → Type 0
 HasNoSequence bytes = All (λ byte. (byte == escape) ≡ false) bytes
 
--- no byte ends an escape sequence: each is a digit or a semicolon
-abbrev pub AreCodes : Colours → Type 0
-AreCodes colours = (colour : Colour) → is_code (code_of colours colour) ≡ true
-
 -- the parts of a text, which are its matches and what is around them, are the text
 abbrev pub PartsAreTheText : Type 0
 PartsAreTheText = (colours : Colours) (line hit : Colour) (text : List ℕ) (ms : List Found)
     → AreDisjoint (whole text) None ms → uncoloured (parts_from colours line hit text 0 ms) ≡ text
 
--- a text without escape sequences is what is printed of it in colours, the escape sequences left out
+-- a text without escape sequences is what is printed of it in colours, the escape sequences left out, if each colour is
+-- a code
 abbrev pub ColoursCanBeLeftOut : Type 0
-ColoursCanBeLeftOut = (colours : Colours) (line hit : Colour) (text : List ℕ) (ms : List Found) → AreCodes colours
-    → AreDisjoint (whole text) None ms → HasNoSequence text
+ColoursCanBeLeftOut = (colours : Colours) (line hit : Colour) (text : List ℕ) (ms : List Found)
+    → AreCodes (palette_of colours) → AreDisjoint (whole text) None ms → HasNoSequence text
     → outside false (painted_text colours line hit text ms) ≡ text

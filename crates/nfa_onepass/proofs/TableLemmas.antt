@@ -1,6 +1,6 @@
 -- A table that grows keeps its steps, and a walk that takes one goes on.
 use Rattle.std.specs.Global.{Vec}
-use Rattle.nfa_paths.proofs.Common.{◌≡◌, ◌∙◌, ℕ, zero, suc, ◌+◌, ◌*◌, ◌<◌, ◌≤◌, ◌⊎◌, inl, inr, List, [], ◌∷◌, ◌++◌, replicate, slice_get, slice_set, slice_index_or, get_or_from_slice_get, none-some, refl, sym, ap, subst, arith, length, length-append, length-set, Option, None, Some, option_map, Automaton, Search, Slots, byte_at, start_state, length-replicate}
+use Rattle.nfa_paths.proofs.Common.{◌≡◌, ◌∙◌, ℕ, zero, suc, ◌+◌, ◌*◌, ◌<◌, ◌≤◌, ◌⊎◌, inl, inr, List, [], ◌∷◌, ◌++◌, replicate, slice_get, slice_set, slice_index_or, get_or, get_or_from_slice_get, slice_get-get_or, none-some, refl, sym, ap, subst, arith, length, length-append, length-set, Option, None, Some, option_map, Automaton, Search, Slots, byte_at, start_state, length-replicate}
 use Rattle.nfa_paths.proofs.MemberLemmas.{same_some}
 use Rattle.nfa_onepass.specs.Ways.{IsOnWay, IsOnly, IsSure, write_each}
 use Rattle.nfa_onepass.specs.Lists.{HasEmptyList, Keeps, list_at}
@@ -56,6 +56,39 @@ IsWalking-takes nfa x old new row b at slots after next h e t =
 -- the column of a byte
 pub byte_of-low : (column : ℕ) → column < 256 → byte_of column ≡ Some column
 byte_of-low = grind arith
+
+-- the byte at a position of the span
+pub byte-here : (x : Search) (at : ℕ) → at < x.end → x.end ≤ length x.haystack
+    → byte_at x at ≡ Some (get_or x.haystack at 0)
+byte-here x at low within =
+    let is = slice_get-get_or x.haystack at 0 (omega (arith, low, within)) in grind (arith, low, is)
+
+-- a row that has a state is one of them
+row-inside : (rows : List Row) (row s : ℕ) → state_at rows row ≡ Some s → row < length rows
+row-inside [] row s e = elim (none-some s e) [ ]
+row-inside (x ∷ rows) zero s e = omega arith
+row-inside (x ∷ rows) (suc row) s e = let h = row-inside rows row s e in omega arith
+
+-- a walk stays at a row over a byte whose step leads back to the row and writes no slot
+pub IsWalking-stays : (nfa : Automaton) (x : Search) (t : OnePass) (row b at : ℕ) (cell : Cell) (slots : Slots)
+    → IsFor nfa t → byte_at x at ≡ Some b → b < 256
+    → ((s : ℕ) → state_at t.rows.items row ≡ Some s → cell.goal < 4294967294
+    → IsStep nfa t.rows.items t.lists.items.items s b cell) → cell.goal ≡ row → cell.list ≡ 0
+    → IsWalking nfa x t row at slots → IsWalking nfa x t row (at + 1) slots
+IsWalking-stays nfa x t row b at cell slots own is low known back none w =
+    let inside = row-inside t.rows.items row w.state w.here in
+    let step = known w.state w.here (omega (arith, inside, own.fits, own.few, back)) in
+    let empty : list_at t.lists.items.items cell.list ≡ [] =
+    ap (list_at t.lists.items.items) none ∙ own.first.empty in
+    IsWalking-takes nfa x t t row b at slots slots row w is (record {
+      to = step.goal;
+      written = [];
+      is = subst (λ (r : ℕ). state_at t.rows.items r ≡ Some step.goal) back (step.leads low);
+      sure = subst (IsSure nfa w.state (Some b) step.goal) empty
+          (subst (λ (o : Option ℕ). IsSure nfa w.state o step.goal (list_at t.lists.items.items cell.list))
+          (byte_of-low b low) step.sure);
+      writes = refl;
+    })
 
 -- A walk begins with no slot set.
 pub IsWalking-begin : (nfa : Automaton) (x : Search) (t : OnePass) (row s count : ℕ) (slots : Slots)

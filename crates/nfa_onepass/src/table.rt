@@ -215,7 +215,7 @@ impl OnePass {
 
     /// The cell of the row, in the column.
     #[inline(always)]
-    fn known(&self, nfa: &NFA, row: u32, column: usize) -> Option<Cell>
+    pub(crate) fn known(&self, nfa: &NFA, row: u32, column: usize) -> Option<Cell>
         requires own { IsFor nfa.now self.now }
         ensures { IfSome result (λ cell. (s : ℕ) → state_at self.now.rows.items row ≡ Some s → cell.goal < 4294967294
             → IsStep nfa.now self.now.rows.items self.now.lists.items.items s column cell) }

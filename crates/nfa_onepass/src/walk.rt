@@ -1,7 +1,8 @@
 //! The walk over a span.
-ghost use Rattle.std.specs.Prelude.{◌≡◌, ◌<◌, ◌≤◌, IfSome, None, Some, length, replicate, true, ℕ};
+ghost use Rattle.std.specs.Prelude.{◌≡◌, ◌<◌, ◌≤◌, ◌+◌, IfSome, None, Some, length, replicate, true, ℕ};
 ghost use Rattle.regex_search_core.specs.Search.{search_of};
 ghost use Rattle.regex_search_core.specs.PatternSets.{number_of};
+ghost use Rattle.nfa_paths.specs.Exploring.{Slots};
 ghost use Rattle.nfa_onepass.specs.Ways.{IsOnly, write_each};
 ghost use Rattle.nfa_onepass.specs.Lists.{HasEmptyList, list_at};
 ghost use Rattle.nfa_onepass.specs.Tables.{IsFor, IsWalking, Takes, limit_of, state_at};
@@ -129,11 +130,46 @@ impl OnePass {
             IsWalking nfa.now (search_of input.now) self.new row (search_of input.now).end slots.new) }
     {
         let mut row = first;
-        for at in input.start()..input.end() {
+        let mut at = self.stay(nfa, input, row, input.start());
+        while at < input.end() {
             let byte = byte_at(input, at)?;
             row = self.step_over(nfa, row, byte, at, slots)?;
+            at = self.stay(nfa, input, row, at + 1);
         }
         Some(row)
+    }
+
+    /// Goes over the bytes from this position on whose steps lead back to the row and write no slot. Returns the
+    /// position of the first other byte, or the end of the span. Most bytes of a group are read here.
+    #[inline(always)]
+    fn stay(&self, nfa: &NFA, input: &Input<'_>, row: u32, from: usize) -> usize
+        requires own { IsFor nfa.now self.now }
+        requires from { from ≤ (search_of input.now).end }
+        ensures low { from ≤ result }
+        ensures high { result ≤ (search_of input.now).end }
+        ensures walking { (slots : Slots) → IsWalking nfa.now (search_of input.now) self.now row from slots
+            → IsWalking nfa.now (search_of input.now) self.now row result slots }
+    {
+        let mut at = from;
+        while at < input.end() && self.leads_back(nfa, input, row, at) {
+            at += 1;
+        }
+        at
+    }
+
+    /// Returns whether the step from the row over the byte at the position leads back to the row and writes no slot.
+    #[inline(always)]
+    fn leads_back(&self, nfa: &NFA, input: &Input<'_>, row: u32, at: usize) -> bool
+        requires own { IsFor nfa.now self.now }
+        requires at { at < (search_of input.now).end }
+        ensures { result ≡ true → (slots : Slots) → IsWalking nfa.now (search_of input.now) self.now row at slots
+            → IsWalking nfa.now (search_of input.now) self.now row (at + 1) slots }
+    {
+        let byte = input.haystack()[at];
+        let Some(cell) = self.known(nfa, row, byte as usize) else {
+            return false;
+        };
+        cell.goal == row && cell.list == NO_SLOTS
     }
 
     /// Sets each slot of the list to the position. Returns whether there is such a list.

@@ -3,12 +3,12 @@ ghost use Rattle.std.specs.Prelude.{◌≡◌, option_map};
 ghost use Rattle.examples.specs.Fields.{utf8_text};
 
 use anyhow::Result;
+use nfa_compiler::written::{compile, named_group_of_pattern};
 use nfa_engines::pikevm::{Cache, PikeVM};
 use nfa_engines::{Captures, Input};
 use std::alloc::Global;
 use std::marker::Model;
 use std::str;
-use nfa_compiler::written::{compile, named_group_of_pattern};
 
 /// A field of lines. A contract sees the pattern and the name of its group.
 #[derive(Drop)]

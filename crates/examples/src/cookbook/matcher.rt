@@ -1,10 +1,10 @@
 //! A struct that owns an engine and its cache.
 use anyhow::Result;
+use nfa_compiler::written::{compile, is_match_of_pattern, matches_of_pattern};
 use nfa_engines::pikevm::{Cache, PikeVM};
 use nfa_engines::{Input, Match};
 use std::alloc::Global;
 use std::marker::Model;
-use nfa_compiler::written::{compile, is_match_of_pattern, matches_of_pattern};
 
 /// A compiled pattern. A contract sees its text.
 #[derive(Drop)]

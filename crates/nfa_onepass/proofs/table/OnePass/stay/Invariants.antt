@@ -1,0 +1,16 @@
+-- The walk stays at the row.
+use Rattle.nfa_paths.proofs.Common.{◌≤◌, ◌-◌, search_of}
+use Rattle.nfa_paths.specs.Exploring.{Slots}
+use Rattle.nfa_onepass.specs.Tables.{IsWalking}
+use Rattle.nfa_onepass.proofs.table.OnePass.stay.Given as goal
+
+abbrev pub invariant-loop-at : goal.invariant-loop-at
+invariant-loop-at l = record {
+  low : l.from ≤ l.at;
+  high : l.at ≤ (search_of l.input).end;
+  walking : (slots : Slots) → IsWalking l.nfa (search_of l.input) l.self l.row l.from slots
+      → IsWalking l.nfa (search_of l.input) l.self l.row l.at slots;
+}
+
+abbrev pub decreases-loop-at : goal.decreases-loop-at
+decreases-loop-at l = (search_of l.input).end - l.at
