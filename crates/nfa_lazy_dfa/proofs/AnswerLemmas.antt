@@ -11,7 +11,7 @@ use Rattle.nfa_lazy_dfa.proofs.PositionLemmas.{waiting, waiting-none, shape, sta
 use Rattle.nfa_lazy_dfa.proofs.LastScanLemmas.{Answered, Answered-found, LastScan, LastScan-scanned, EarliestScan, EarliestScan-scanned}
 use Rattle.nfa_lazy_dfa.proofs.FirstScanLemmas.{FirstScan, FirstScan-scanned}
 use Rattle.nfa_paths.proofs.MemberLemmas.{option_or-None}
-use Rattle.nfa_paths.proofs.Common.{◌≡◌, ℕ, ◌+◌, ◌-◌, ◌<◌, arith, inl, inr, Bool, true, false, List, [], ◌++◌, refl, ap, sym, ◌∙◌, Option, None, option_and_then, Search, MatchKind, Automaton, Pair, NoPath, is_resting, edges, starts, is_match, IsMatch, IsScanAnswer, path_half, LeftmostFirst}
+use Rattle.nfa_paths.proofs.Common.{◌≡◌, ℕ, ◌+◌, ◌<◌, arith, inl, inr, Bool, true, false, List, [], ◌++◌, refl, ap, sym, ◌∙◌, Option, None, option_and_then, Search, MatchKind, Automaton, Pair, NoPath, is_resting, edges, starts, is_match, IsMatch, IsScanAnswer, path_half, LeftmostFirst}
 
 module _ (nfa : Automaton) (x : Search) where
   -- no state and no start is left of the search for the first path

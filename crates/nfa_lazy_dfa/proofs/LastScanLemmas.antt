@@ -11,7 +11,7 @@ use Rattle.nfa_lazy_dfa.proofs.NextLemmas.{place-among}
 use Rattle.nfa_lazy_dfa.proofs.MatchLemmas.{half_of, FirstIn, NoneIn, NoneMatches, first-is, half-last, half-found}
 use Rattle.nfa_lazy_dfa.proofs.PositionLemmas.{scanned-each, AllScan, shape, turns_here, front, AllScan-next, Finding-begin}
 use Rattle.nfa_paths.proofs.MemberLemmas.{option_or-None}
-use Rattle.nfa_paths.proofs.Common.{◌≡◌, ◌⊎◌, ℕ, ◌+◌, ◌≤◌, inl, inr, Bool, true, false, List, [], ◌∷◌, ◌++◌, map, refl, ap, sym, ◌∙◌, arith, Option, None, Some, is_some, option_map, option_and_then, option_or, map-append, HalfFound, Search, MatchKind, Automaton, Pair, IsFirstPath, WantedAt, Hit, Passes, IsFoundBy, NoneBefore, LastBefore, NoMatch, last_match, is_resting, is_match, IsScanAnswer, path_half, LeftmostFirst, ◌-◌, half_at}
+use Rattle.nfa_paths.proofs.Common.{◌≡◌, ◌⊎◌, ℕ, ◌+◌, ◌≤◌, inl, inr, Bool, true, false, List, [], ◌∷◌, ◌++◌, map, refl, ap, sym, ◌∙◌, arith, Option, None, Some, is_some, option_map, option_and_then, option_or, map-append, HalfFound, Search, MatchKind, Automaton, Pair, IsFirstPath, WantedAt, Hit, Passes, IsFoundBy, NoneBefore, LastBefore, NoMatch, last_match, is_resting, is_match, IsScanAnswer, path_half, LeftmostFirst, half_at}
 
 -- what was found first stays
 pub stays : (o h : Option HalfFound) → is_some o ≡ true → option_or o h ≡ o
