@@ -1,10 +1,9 @@
-//! Searches standard input over and over, to be timed: for a pattern with one of our engines, a lazy DFA, a `Regex` or
-//! the crate regex, or with a sample NFA.
+//! Searches standard input for a pattern over and over, to be timed: with one of our engines, with a lazy DFA or with
+//! the crate regex.
 #![tactic(auto)]
 
 mod call;
 mod ends;
-mod samples;
 mod speed;
 mod stop;
 

@@ -1,14 +1,13 @@
-//! What the program does: searches its input over and over, with a sample NFA or for a pattern; or prints the number of
-//! states of a compiled pattern.
+//! What the program does: makes a call on its input over and over, with one of our engines, with a lazy DFA or with the
+//! crate regex; or prints the number of states.
 ghost use Rattle.std.specs.Prelude.{◌≤◌, IfOk};
 
 use crate::call::Call;
 use crate::ends::Ends;
-use crate::samples;
 use crate::stop::{FAILED, Stop};
+use nfa_samples::named_engine::{Engine, Failure, read_haystack};
 use nfa_compiler::Compiler;
 use nfa_meta::Regex as Meta;
-use nfa_samples::named_engine::{Engine, Failure, read_haystack};
 use regex::bytes::Regex;
 use std::alloc::Global;
 use std::io;
@@ -18,10 +17,8 @@ use thompson_nfa::NFA;
 /// Searches the text as the arguments after the program's name say, and prints the number of matches of the last round,
 /// or the number of states, in a line. Prints one line with the error if that fails.
 ///
-/// If the arguments are wrong, nothing is read.
-///
 /// Returns the status to end with: 0; 1 if a pattern or a search was refused, or if a read or a write failed; 2 for
-/// other arguments, and if no sample NFA has the name.
+/// other arguments.
 pub fn run<R: Read, W: Write>(alloc: Global, words: &[&str], text: &mut R, out: &mut W) -> u8
     ensures { result ≤ 2 }
 {
@@ -60,16 +57,19 @@ fn count<R: Read>(alloc: Global, words: &[&str], text: &mut R) -> Result<u64, St
             return count_states(alloc, pattern);
         }
     }
-    let [word, name, rounds] = words else {
+    let [engine, pattern, rounds] = words else {
         return Err(Stop::Usage);
     };
-    let form = Form::from_word(word).ok_or(Stop::Usage)?;
+    let finder = Finder::from_word(engine).ok_or(Stop::Usage)?;
     let rounds = rounds.parse::<u64>().ok().ok_or(Stop::Usage)?;
-    match form {
-        Form::Sample(engine) => samples::rounds(alloc, engine, name, text, rounds),
-        Form::Pattern(finder) => {
-            let bytes = read_haystack(alloc, text)?;
-            finder.rounds(alloc, name, &bytes, rounds)
+    let bytes = read_haystack(alloc, text)?;
+    match finder {
+        Finder::Regex(call) => regex_rounds(alloc, pattern, &bytes, rounds, call),
+        Finder::Meta(call) => meta_rounds(alloc, pattern, &bytes, rounds, call),
+        Finder::Lazy(ends) => ends.rounds(alloc, compiled(alloc, pattern)?, &bytes, rounds),
+        Finder::Ours(engine) => {
+            let count = engine.count_matches(alloc, compiled(alloc, pattern)?, &bytes, rounds)?;
+            Ok(count)
         }
     }
 }
@@ -118,23 +118,7 @@ fn meta_rounds(
     Ok(count)
 }
 
-/// A form of the command line that has rounds.
-#[derive(Clone, Copy, Debug)]
-enum Form {
-    Sample(Engine),
-    Pattern(Finder),
-}
-
-impl Form {
-    fn from_word(word: &str) -> Option<Form> {
-        match Engine::from_word(word) {
-            Some(engine) => Some(Form::Sample(engine)),
-            None => Finder::from_word(word).map(Form::Pattern),
-        }
-    }
-}
-
-/// What searches for a pattern, and by which call.
+/// What searches, and by which call.
 #[derive(Clone, Copy, Debug)]
 enum Finder {
     Ours(Engine),
@@ -154,20 +138,6 @@ impl Finder {
         if let Some(ends) = word.strip_prefix("dfa") {
             return Ends::from_word(ends).map(Finder::Lazy);
         }
-        let engine = word.strip_suffix("-pattern")?;
-        Engine::from_word(engine).map(Finder::Ours)
-    }
-
-    /// The count of the last round.
-    fn rounds(self, alloc: Global, pattern: &str, text: &[u8], rounds: u64) -> Result<u64, Stop> {
-        match self {
-            Finder::Regex(call) => regex_rounds(alloc, pattern, text, rounds, call),
-            Finder::Meta(call) => meta_rounds(alloc, pattern, text, rounds, call),
-            Finder::Lazy(ends) => ends.rounds(alloc, compiled(alloc, pattern)?, text, rounds),
-            Finder::Ours(engine) => {
-                let count = engine.count_matches(alloc, compiled(alloc, pattern)?, text, rounds)?;
-                Ok(count)
-            }
-        }
+        Engine::from_word(word).map(Finder::Ours)
     }
 }

@@ -1,28 +1,27 @@
 //! Why the program stops before it is done.
 ghost use Rattle.std.specs.Prelude.{◌≤◌};
 
+use nfa_samples::named_engine::Failure;
 use nfa_compiler::CompileError;
 use nfa_engines::error::SearchError;
 use nfa_lazy_dfa::StopError;
 use nfa_meta::BuildError;
-use nfa_samples::named_engine::Failure;
 use std::alloc::AllocError;
 use std::fmt;
 
 /// The pattern or the search was refused, or reading or writing failed.
 pub const FAILED: u8 = 1;
 
-/// The arguments are not those of the program, or no sample NFA has the name.
+/// The arguments are not those of the program.
 const MISUSED: u8 = 2;
 
-const USAGE: &str = "usage: clocks back|pike NAME ROUNDS | \
-     back-pattern|pike-pattern|dfa[-windows]|meta[-CALL]|regex[-CALL] PATTERN ROUNDS | states PATTERN";
+const USAGE: &str =
+    "usage: clocks [back|pike|dfa[-windows]|meta[-CALL]|regex[-CALL] PATTERN ROUNDS|states PATTERN]";
 
 /// Why the program stops before it is done.
 #[derive(Debug, Drop)]
 pub enum Stop {
     Usage,
-    UnknownName,
     Pattern(CompileError),
     OtherPattern(regex::Error),
     Lazy(StopError),
@@ -35,7 +34,7 @@ impl Stop {
         ensures { result ≤ 2 }
     {
         match self {
-            Stop::Usage | Stop::UnknownName => MISUSED,
+            Stop::Usage => MISUSED,
             Stop::Pattern(_) | Stop::OtherPattern(_) | Stop::Lazy(_) | Stop::Failed(_) => FAILED,
         }
     }
@@ -45,9 +44,6 @@ impl fmt::Display for Stop {
     fn fmt<W: fmt::Write>(&self, f: &mut fmt::Formatter<W>) -> fmt::Result {
         match self {
             Stop::Usage => f.write_str(USAGE),
-            Stop::UnknownName => {
-                f.write_str("no sample NFA has this name: docs/NFAS.md lists the names")
-            }
             Stop::Pattern(error) => write!(f, "{error}"),
             Stop::OtherPattern(error) => write!(f, "{error}"),
             Stop::Lazy(error) => write!(f, "the lazy DFA has no answer: {error}"),
