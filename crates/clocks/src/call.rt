@@ -1,8 +1,8 @@
 //! What a round does with a text: a call of `nfa_meta::Regex`, and the one of the crate regex that does the same.
 
-use nfa_samples::named_engine::Failure;
 use nfa_engines::{Captures, Input};
 use nfa_meta::Regex as Meta;
+use nfa_samples::named_engine::Failure;
 use regex::bytes::{Matcher, Template};
 use std::alloc::Global;
 

@@ -1,11 +1,11 @@
 //! Why the program stops before it is done.
 ghost use Rattle.std.specs.Prelude.{◌≤◌};
 
-use nfa_samples::named_engine::Failure;
 use nfa_compiler::CompileError;
 use nfa_engines::error::SearchError;
 use nfa_lazy_dfa::StopError;
 use nfa_meta::BuildError;
+use nfa_samples::named_engine::Failure;
 use std::alloc::AllocError;
 use std::fmt;
 
