@@ -1,8 +1,8 @@
 //! Sample NFAs by name, for tests and for trying out the engines.
 //!
 //! Use this crate to try a search before you write an NFA of your own. `nfa_compiler` makes an NFA from a pattern, and
-//! `thompson_nfa` from its states. [`answers`] has the answers of searches of the samples, and [`named_engine`] the engine
-//! that an argument of a program names.
+//! `thompson_nfa` from its states. [`answers`] has the answers of searches of the samples, and [`named_engine`] the
+//! engine that an argument of a program names.
 //!
 //! ```
 //! let nfa = sample(alloc, "foo_num")?.context("there is no NFA of this name")?;
