@@ -4,6 +4,7 @@ use Rattle.std.proofs.lemmas.Bool.{cases_Bool}
 use Rattle.grep_options.specs.Colours.{AreCodes, Change, Palette, change_of, is_code, made_of_next, split_at, usual, with_all, with_code, with_flag, with_parts}
 use Rattle.grep_options.specs.declared.colours.Change.TheVariants as change
 
+-- a capability without a value sets no colour that is not a code
 flag-codes : (palette : Palette) (for : Change) → AreCodes palette → AreCodes (with_flag palette for)
 flag-codes palette change.Matches are = grind (arith, are)
 flag-codes palette change.SelectedMatch are = are
@@ -18,6 +19,7 @@ flag-codes palette change.Reverse are = are
 flag-codes palette change.Keep are = are
 flag-codes palette change.Nothing are = are
 
+-- nor does one whose value is a code
 code-codes : (palette : Palette) (for : Change) (code : List ℕ) → is_code code ≡ true → AreCodes palette
     → AreCodes (with_code palette for code)
 code-codes palette change.Matches code is are = grind (arith, are, is)
@@ -33,6 +35,7 @@ code-codes palette change.Reverse code is are = are
 code-codes palette change.Keep code is are = are
 code-codes palette change.Nothing code is are = are
 
+-- nor does one of these parts, if it is well formed
 parts-codes : (palette : Palette) (parts : List (List ℕ)) (next : Palette) → AreCodes palette
     → with_parts palette parts ≡ Some next → AreCodes next
 parts-codes palette [] next are e = absurd (cc)
@@ -50,7 +53,7 @@ parts-codes palette ((first ∷ name) ∷ code ∷ []) next are e = elim (cases_
 parts-codes palette ([] ∷ code ∷ other ∷ others) next are e = absurd (cc)
 parts-codes palette ((first ∷ name) ∷ code ∷ other ∷ others) next are e = absurd (cc)
 
--- so is each of the palette with these capabilities
+-- nor do several
 pub all-codes : (capabilities : List (List ℕ)) (palette : Palette) → AreCodes palette
     → AreCodes (with_all palette capabilities)
 all-codes [] palette are = are
@@ -63,5 +66,6 @@ all-codes (capability ∷ others) palette are =
     next-codes later None is = are
     next-codes later (Some next) is = later next (parts-codes palette (split_at 61 capability) next are is)
 
+-- the usual colours are codes
 pub usual-codes : AreCodes usual
 usual-codes = refl

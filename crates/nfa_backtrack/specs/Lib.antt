@@ -1,3 +1,5 @@
+pub mod Bits
+pub mod Walk
 pub mod Backtrack
 pub mod Iterators
 pub mod Finding

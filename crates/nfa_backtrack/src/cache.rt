@@ -3,8 +3,8 @@ ghost use Rattle.std.specs.Prelude.{◌≡◌, IfOk, IsOkUnless};
 ghost use Rattle.nfa_backtrack.specs.Backtrack.{empty_cache, memory_of};
 
 use crate::engine::BoundedBacktracker;
-use nfa_backtrack_scan::scratch::Scratch;
-use nfa_backtrack_scan::visited::Visited;
+use crate::scratch::Scratch;
+use crate::visited::Visited;
 use nfa_scan_core::counter::Counter;
 use nfa_search_base::error::SearchError;
 use regex_search_core::{NonMaxUsize, Refused};

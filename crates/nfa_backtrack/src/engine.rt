@@ -18,7 +18,7 @@ ghost use Rattle.nfa_search_base.specs.Lists.{finds, IsInside, IsSlotInside};
 
 use crate::cache::Cache;
 use crate::config::{Builder, Config};
-use nfa_backtrack_scan::scratch::Scratch;
+use crate::scratch::Scratch;
 use nfa_scan_core::first_bytes::FirstBytes;
 use nfa_search_base::error::SearchError;
 use regex_search_core::{Captures, HalfMatch, Input, Match, NonMaxUsize, PatternID, Refused};

@@ -16,15 +16,23 @@
 //! ```
 #![tactic(auto)]
 
+mod alternates;
+mod byte_loop;
 mod cache;
 mod captures;
 mod captures_iter;
 mod config;
 mod engine;
 mod find_iter;
+mod frame;
 mod half;
 mod may_begin;
+mod scan;
+mod scratch;
 mod search;
+mod turn;
+mod visited;
+mod walk;
 
 pub use cache::Cache;
 pub use captures_iter::TryCapturesMatches;

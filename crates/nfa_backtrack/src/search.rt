@@ -9,13 +9,13 @@ ghost use Rattle.nfa_paths.specs.Paths.{span_len};
 ghost use Rattle.nfa_paths.specs.Restarts.{max_scan_turns, IsBounded, ScanGives, SearchGives};
 ghost use Rattle.nfa_backtrack.specs.Backtrack.{GrowsBlocks};
 ghost use Rattle.nfa_backtrack.specs.Finding.{IsCounted};
-ghost use Rattle.nfa_backtrack_scan.specs.Walk.{HasBits};
+ghost use Rattle.nfa_backtrack.specs.Walk.{HasBits};
 ghost use Rattle.nfa_search_base.specs.EngineSearches.{last_start};
 
 use crate::cache::Cache;
 use crate::engine::BoundedBacktracker;
-use nfa_backtrack_scan::scan::{scan, unset};
-use nfa_backtrack_scan::scratch::Scratch;
+use crate::scan::{scan, unset};
+use crate::scratch::Scratch;
 use nfa_scan_core::starts::may_end_at;
 use nfa_search_base::error::SearchError;
 use regex_search_core::{HalfMatch, Input, NonMaxUsize, Refused};

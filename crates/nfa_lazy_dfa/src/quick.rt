@@ -50,6 +50,31 @@ impl DFA {
         }
         Some(half)
     }
+
+    /// Returns what [`DFA::try_find_half`] returns, also that nothing matches, if rows that earlier searches made lead
+    /// to it. `None` says nothing: such rows are not there, or a match has to end on a boundary.
+    ///
+    /// This call changes nothing, and counts no step. The caller must ensure that the cache is the DFA's (`IsFor`).
+    ///
+    /// ```
+    /// // dfa of "foo[0-9]+"
+    /// let input = Input::new(b"foo, foo12345").anchored(Anchored::Yes);
+    /// assert_eq!(rt; dfa.known_answer(cache, &input), None);
+    /// assert_eq!(rt; dfa.try_find_half(cache, input)?, None);
+    /// assert_eq!(rt; dfa.known_answer(cache, &input), Some(None));
+    /// ```
+    #[inline(always)]
+    pub fn known_answer(&self, cache: &Cache, input: &Input<'_>) -> Option<Option<HalfMatch>>
+        requires { IsFor cache.now self.now }
+        ensures answer { let x = search_of input.now in IfSome result (λ half.
+            IsHalfAnswer (nfa_of self.now) (kind_of self.now) x.earliest x (option_map half_found_of half)) }
+    {
+        laws::steps_find_the_half();
+        if self.on_boundary {
+            return None;
+        }
+        known_scan(self, cache, input)
+    }
 }
 
 /// Whether the answer of a search is that of its only scan: it is anchored, or a match may end anywhere.

@@ -64,29 +64,72 @@ byte-here x at low within =
     let is = slice_get-get_or x.haystack at 0 (omega (arith, low, within)) in grind (arith, low, is)
 
 -- a row that has a state is one of them
-row-inside : (rows : List Row) (row s : ℕ) → state_at rows row ≡ Some s → row < length rows
+pub row-inside : (rows : List Row) (row s : ℕ) → state_at rows row ≡ Some s → row < length rows
 row-inside [] row s e = elim (none-some s e) [ ]
 row-inside (x ∷ rows) zero s e = omega arith
 row-inside (x ∷ rows) (suc row) s e = let h = row-inside rows row s e in omega arith
 
--- a walk stays at a row over a byte whose step leads back to the row and writes no slot
-pub IsWalking-stays : (nfa : Automaton) (x : Search) (t : OnePass) (row b at : ℕ) (cell : Cell) (slots : Slots)
-    → IsFor nfa t → byte_at x at ≡ Some b → b < 256
-    → ((s : ℕ) → state_at t.rows.items row ≡ Some s → cell.goal < 4294967294
-    → IsStep nfa t.rows.items t.lists.items.items s b cell) → cell.goal ≡ row → cell.list ≡ 0
-    → IsWalking nfa x t row at slots → IsWalking nfa x t row (at + 1) slots
-IsWalking-stays nfa x t row b at cell slots own is low known back none w =
-    let inside = row-inside t.rows.items row w.state w.here in
-    let step = known w.state w.here (omega (arith, inside, own.fits, own.few, back)) in
+-- it is there
+row-there : (rows : List Row) (row s : ℕ) → state_at rows row ≡ Some s
+    → (r : Row) × (slice_get rows row ≡ Some r) × (r.state ≡ s)
+row-there [] row s e = elim (none-some s e) [ ]
+row-there (x ∷ rows) zero s e = (x, refl, same_some x.state s e)
+row-there (x ∷ rows) (suc row) s e = row-there rows row s e
+
+-- and each of them is there
+row-is : (rows : List Row) (row : ℕ) → row < length rows → (r : Row) × (slice_get rows row ≡ Some r)
+row-is [] row low = absurd (omega (arith, low))
+row-is (x ∷ rows) zero low = (x, refl)
+row-is (x ∷ rows) (suc row) low = row-is rows row (omega (arith, low))
+
+-- the step over the byte, if the cell is known: each row that a walk may be at has it
+pub record HasStep (nfa : Automaton) (t : OnePass) (row b : ℕ) (cell : Cell) : Type 0 where
+  pub kept : (r : Row) → slice_get t.rows.items row ≡ Some r → slice_get r.cells b ≡ Some cell
+  pub known : cell.goal < 4294967294
+  pub low : b < 256
+
+-- a cell that is read of rows and of a haystack which are those of the table and of the search
+pub has-step : (nfa : Automaton) (x : Search) (t : OnePass) (row at : ℕ) (cell : Cell) (rows : List Row)
+    (haystack : List ℕ) → rows ≡ t.rows.items → haystack ≡ x.haystack → get_or haystack at 0 < 256
+    → cell.goal < 4294967294
+    → ((r : Row) → slice_get rows row ≡ Some r → slice_get r.cells (get_or haystack at 0) ≡ Some cell)
+    → HasStep nfa t row (get_or x.haystack at 0) cell
+has-step nfa x t row at cell rows haystack same read low known kept =
+    subst (λ (h : List ℕ). HasStep nfa t row (get_or h at 0) cell) read (record {
+      kept = λ r is. kept r (ap (λ (rs : List Row). slice_get rs row) same ∙ is);
+      known = known;
+      low = low;
+    })
+
+step-of : (nfa : Automaton) (t : OnePass) (row b : ℕ) (cell : Cell) (r : Row) → IsFor nfa t → HasStep nfa t row b cell
+    → slice_get t.rows.items row ≡ Some r → IsStep nfa t.rows.items t.lists.items.items r.state b cell
+step-of nfa t row b cell r own has is = own.steps row b r cell is (has.kept r is) has.known
+
+-- such a step leads to a row
+pub step-inside : (nfa : Automaton) (t : OnePass) (row b : ℕ) (cell : Cell) → IsFor nfa t → HasStep nfa t row b cell
+    → row < length t.rows.items → cell.goal < length t.rows.items
+step-inside nfa t row b cell own has inside =
+    let found = row-is t.rows.items row inside in
+    let step = step-of nfa t row b cell found.0 own has found.1 in
+    row-inside t.rows.items cell.goal step.goal (step.leads has.low)
+
+-- and a walk that takes it, where it writes no slot, is at that row
+pub IsWalking-goes : (nfa : Automaton) (x : Search) (t : OnePass) (row b at : ℕ) (cell : Cell) (slots : Slots)
+    → IsFor nfa t → byte_at x at ≡ Some b → HasStep nfa t row b cell → cell.list ≡ 0
+    → IsWalking nfa x t row at slots → IsWalking nfa x t cell.goal (at + 1) slots
+IsWalking-goes nfa x t row b at cell slots own is has none w =
+    let there = row-there t.rows.items row w.state w.here in
+    let step = subst (λ (s : ℕ). IsStep nfa t.rows.items t.lists.items.items s b cell) there.2
+    (step-of nfa t row b cell there.0 own has there.1) in
     let empty : list_at t.lists.items.items cell.list ≡ [] =
     ap (list_at t.lists.items.items) none ∙ own.first.empty in
-    IsWalking-takes nfa x t t row b at slots slots row w is (record {
+    IsWalking-takes nfa x t t row b at slots slots cell.goal w is (record {
       to = step.goal;
       written = [];
-      is = subst (λ (r : ℕ). state_at t.rows.items r ≡ Some step.goal) back (step.leads low);
+      is = step.leads has.low;
       sure = subst (IsSure nfa w.state (Some b) step.goal) empty
           (subst (λ (o : Option ℕ). IsSure nfa w.state o step.goal (list_at t.lists.items.items cell.list))
-          (byte_of-low b low) step.sure);
+          (byte_of-low b has.low) step.sure);
       writes = refl;
     })
 
@@ -226,14 +269,7 @@ IsFor-set nfa t u i column s kept cell is rows lists same h here step =
 pub IsFor-within : (nfa : Automaton) (t : OnePass) → IsFor nfa t → memory_of t ≤ limit_of t
 IsFor-within nfa t h = omega (arith, h.fits, h.room, t.lists.counted.within)
 
--- a row that has a state is there
-row-there : (rows : List Row) (row s : ℕ) → state_at rows row ≡ Some s
-    → (r : Row) × (slice_get rows row ≡ Some r) × (r.state ≡ s)
-row-there [] row s e = elim (none-some s e) [ ]
-row-there (x ∷ rows) zero s e = (x, refl, same_some x.state s e)
-row-there (x ∷ rows) (suc row) s e = row-there rows row s e
-
--- and so is a table with a row added that has no step
+-- a table with a row added that has no step is one of the NFA
 pub IsFor-push : (nfa : Automaton) (t u : OnePass) (r : Row) (s : ℕ) → u.rows.items ≡ t.rows.items ++ r ∷ []
     → u.lists.items.items ≡ t.lists.items.items → SameLimits t u → length t.rows.items < t.most_rows → IsFor nfa t
     → IsFresh r s → s < length nfa.states → IsFor nfa u

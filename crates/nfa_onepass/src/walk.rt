@@ -1,14 +1,15 @@
 //! The walk over a span.
-ghost use Rattle.std.specs.Prelude.{◌≡◌, ◌<◌, ◌≤◌, ◌+◌, IfSome, None, Some, length, replicate, true, ℕ};
+ghost use Rattle.std.specs.Prelude.{◌≡◌, ◌<◌, ◌≤◌, IfSome, None, Some, length, replicate, slice_get, true, ℕ};
 ghost use Rattle.regex_search_core.specs.Search.{search_of};
 ghost use Rattle.regex_search_core.specs.PatternSets.{number_of};
 ghost use Rattle.nfa_paths.specs.Exploring.{Slots};
 ghost use Rattle.nfa_onepass.specs.Ways.{IsOnly, write_each};
 ghost use Rattle.nfa_onepass.specs.Lists.{HasEmptyList, list_at};
 ghost use Rattle.nfa_onepass.specs.Tables.{IsFor, IsWalking, Takes, limit_of, state_at};
+ghost use Rattle.nfa_onepass.specs.declared.table.Row.{Row};
 
 use crate::lists::NO_SLOTS;
-use crate::table::{END, OnePass};
+use crate::table::{Cell, END, OnePass, Row, UNSURE};
 use nfa_scan_core::starts::start_state;
 use nfa_scan_core::transitions::byte_at;
 use regex_search_core::{Input, NonMaxUsize, PatternID};
@@ -36,6 +37,24 @@ fn unset(slots: &mut [Option<NonMaxUsize>])
     ensures { slots.new ≡ replicate (length slots.old) None }
 {
     slots.fill(None);
+}
+
+/// Where a walk is: a position, and the row there.
+#[derive(Clone, Copy)]
+struct Place {
+    at: usize,
+    row: u32,
+}
+
+/// The cell of the byte in the row, which always has one.
+#[inline(always)]
+fn cell_of(rows: &[Row], row: u32, byte: u8) -> Option<Cell>
+    requires { row < length rows.now }
+    ensures { IfSome result (λ cell. (r : Row) → slice_get rows.now row ≡ Some r
+        → slice_get r.cells byte ≡ Some cell) }
+{
+    let cell = rows[row as usize].cells.get(byte as usize)?;
+    Some(*cell)
 }
 
 /// The pattern of this number.
@@ -129,14 +148,46 @@ impl OnePass {
         ensures walking { IfSome result (λ row.
             IsWalking nfa.now (search_of input.now) self.new row (search_of input.now).end slots.new) }
     {
-        let mut row = first;
-        let mut at = self.stay(nfa, input, row, input.start());
-        while at < input.end() {
-            let byte = byte_at(input, at)?;
-            row = self.step_over(nfa, row, byte, at, slots)?;
-            at = self.stay(nfa, input, row, at + 1);
+        let mut place = self.pass(nfa, input, first, input.start());
+        while place.at < input.end() {
+            let byte = byte_at(input, place.at)?;
+            let row = self.step_over(nfa, place.row, byte, place.at, slots)?;
+            place = self.pass(nfa, input, row, place.at + 1);
         }
-        Some(row)
+        Some(place.row)
+    }
+
+    /// Goes over the bytes from this position on whose steps are known and write no slot. Returns the position of the
+    /// first other byte, or the end of the span, and the row there.
+    #[inline(always)]
+    fn pass(&self, nfa: &NFA, input: &Input<'_>, first: u32, from: usize) -> Place
+        requires own { IsFor nfa.now self.now }
+        requires row { first < length self.now.rows.items }
+        requires from { from ≤ (search_of input.now).end }
+        ensures low { from ≤ result.at }
+        ensures high { result.at ≤ (search_of input.now).end }
+        ensures walking { (slots : Slots) → IsWalking nfa.now (search_of input.now) self.now first from slots
+            → IsWalking nfa.now (search_of input.now) self.now result.row result.at slots }
+    {
+        let rows = self.rows.as_slice();
+        let haystack = input.haystack();
+        let end = input.end();
+        let mut row = first;
+        let mut at = from;
+        while at < end {
+            let Some(cell) = cell_of(rows, row, haystack[at]) else {
+                break;
+            };
+            if cell.list != NO_SLOTS || cell.goal >= UNSURE {
+                break;
+            }
+            at += 1;
+            if cell.goal == row {
+                at = self.stay(nfa, input, row, at);
+            }
+            row = cell.goal;
+        }
+        Place { at, row }
     }
 
     /// Goes over the bytes from this position on whose steps lead back to the row and write no slot. Returns the
@@ -144,32 +195,27 @@ impl OnePass {
     #[inline(always)]
     fn stay(&self, nfa: &NFA, input: &Input<'_>, row: u32, from: usize) -> usize
         requires own { IsFor nfa.now self.now }
+        requires row { row < length self.now.rows.items }
         requires from { from ≤ (search_of input.now).end }
         ensures low { from ≤ result }
         ensures high { result ≤ (search_of input.now).end }
         ensures walking { (slots : Slots) → IsWalking nfa.now (search_of input.now) self.now row from slots
             → IsWalking nfa.now (search_of input.now) self.now row result slots }
     {
+        let rows = self.rows.as_slice();
+        let haystack = input.haystack();
+        let end = input.end();
         let mut at = from;
-        while at < input.end() && self.leads_back(nfa, input, row, at) {
+        while at < end {
+            let Some(cell) = cell_of(rows, row, haystack[at]) else {
+                break;
+            };
+            if cell.goal != row || cell.list != NO_SLOTS {
+                break;
+            }
             at += 1;
         }
         at
-    }
-
-    /// Returns whether the step from the row over the byte at the position leads back to the row and writes no slot.
-    #[inline(always)]
-    fn leads_back(&self, nfa: &NFA, input: &Input<'_>, row: u32, at: usize) -> bool
-        requires own { IsFor nfa.now self.now }
-        requires at { at < (search_of input.now).end }
-        ensures { result ≡ true → (slots : Slots) → IsWalking nfa.now (search_of input.now) self.now row at slots
-            → IsWalking nfa.now (search_of input.now) self.now row (at + 1) slots }
-    {
-        let byte = input.haystack()[at];
-        let Some(cell) = self.known(nfa, row, byte as usize) else {
-            return false;
-        };
-        cell.goal == row && cell.list == NO_SLOTS
     }
 
     /// Sets each slot of the list to the position. Returns whether there is such a list.

@@ -1,7 +1,7 @@
 //! The part of an input that holds the answer of its search.
 ghost use Rattle.std.specs.Prelude.{◌≡◌, ◌*◌, ◌+◌, ◌≤◌, ◌⊎◌, ◌<◌, IfErr, IfNone, IfOk, IfSome, None, Some, false};
 ghost use Rattle.std.specs.Prelude.{length, option_map, true};
-ghost use Rattle.regex_search_core.specs.Found.{found_of};
+ghost use Rattle.regex_search_core.specs.Found.{found_of, half_found_of};
 ghost use Rattle.regex_search_core.specs.Search.{search_of};
 ghost use Rattle.nfa_paths.specs.Paths.{IsFindAnswer, IsHalfAnswer, is_utf8_empty};
 ghost use Rattle.nfa_search_base.specs.Lists.{IsInside};
@@ -21,8 +21,9 @@ use nfa_facts::literal::laws::nothing_has_no_answer;
 use nfa_facts::match_spans::laws::{
     anchored_matches_start_the_span, half_matches_are_ends, no_match_is_missed,
 };
+use nfa_lazy_dfa::StopError;
 use nfa_lazy_dfa::determinize::laws::steps_find_the_half;
-use regex_search_core::{Input, Match, Span};
+use regex_search_core::{HalfMatch, Input, Match, Span};
 
 /// The number of starts in a window that the lazy DFA tries before the choice searches the window.
 const TRIES: usize = 4;
@@ -140,7 +141,7 @@ impl Regex {
         anchored_matches_start_the_span();
         half_matches_are_ends();
         no_match_is_missed();
-        match self.dfa.try_find_half(&mut self.cache, input) {
+        match self.half_by_dfa(input) {
             Ok(None) => Some(None),
             Ok(Some(half)) => {
                 let span = Span {
@@ -151,6 +152,20 @@ impl Regex {
             }
             Err(_) => None,
         }
+    }
+
+    /// Returns the half match of the search by the lazy DFA. Over known cells nothing is written for it.
+    #[inline(always)]
+    fn half_by_dfa<'h>(&mut self, input: Input<'h>) -> Result<Option<HalfMatch>, StopError>
+        ensures answer { let x = search_of input.entry in IfOk result (λ half. IsHalfAnswer self.old.choice.nfa
+            (kind_in self.old.choice) x.earliest x (option_map half_found_of half)) }
+        ensures same { self.new.choice ≡ self.old.choice }
+        ensures keeps { KeepsRegex self.old self.new }
+    {
+        if let Some(half) = self.dfa.known_answer(&self.cache, &input) {
+            return Ok(half);
+        }
+        self.dfa.try_find_half(&mut self.cache, input)
     }
 
     /// Returns the match that [`Regex::find`] returns. It copies no input for a match at the first start.

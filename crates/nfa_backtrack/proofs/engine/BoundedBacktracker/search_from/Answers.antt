@@ -1,7 +1,7 @@
 -- A search that scans again while its answer ends inside a codepoint: what holds at each scan, and the result.
 use Rattle.nfa_paths.proofs.Common.{◌∙◌, ◌+◌, ap, arith, refl, replicate, sym, None, Search}
 use Rattle.nfa_paths.proofs.RestartLemmas.{bounded, discarded, restarted, restarts-begin, scan-start, settled-none, settled-some, splits, start-left}
-use Rattle.nfa_backtrack_scan.proofs.PassLemmas.{room-after}
+use Rattle.nfa_backtrack.proofs.PassLemmas.{room-after}
 use Rattle.nfa_backtrack.proofs.engine.BoundedBacktracker.search_from.Goals as goal
 
 pub loop-half-init : goal.loop-half-init

@@ -37,7 +37,7 @@ returns-clause-answer c =
       ends = c.half_matches_are_ends.ensures;
       starts = c.anchored_matches_start_the_span.ensures;
     } in
-    elim c.match-try_find_half.branch [
+    elim c.match-half_by_dfa.branch [
       | in-Ok-None w ↦
           let half : IsHalfAnswer r.nfa (kind_in r) x.earliest x None =
           first_of (search rules, grind (arith, common_steps)) in
@@ -56,7 +56,7 @@ returns-clause-pattern c =
     let r = c.args.self.now.choice in
     let x = search_of c.args.input in
     let valid : IsAutomaton r.nfa = first_of (search rules, grind (arith, common_steps)) in
-    patterns-of r.nfa (kind_in r) x.earliest x valid c.match-try_find_half.result (returns-clause-answer c)
+    patterns-of r.nfa (kind_in r) x.earliest x valid c.match-half_by_dfa.result (returns-clause-answer c)
 
 pub returns-clause-nothing : goal.returns-clause-nothing
 returns-clause-nothing c anywhere =
@@ -67,4 +67,4 @@ returns-clause-nothing c anywhere =
       records = first_of (search rules, grind (arith, common_steps));
     } in
     nothing-of (kind_in r) x.earliest x of c.no_match_is_missed.ensures.nothing anywhere
-    c.match-try_find_half.result (returns-clause-answer c)
+    c.match-half_by_dfa.result (returns-clause-answer c)

@@ -1,6 +1,0 @@
-pub mod BitLemmas
-pub mod PassLemmas
-pub mod WalkLemmas
-pub mod StepLemmas
-pub mod ApplyFrameLemmas
-pub mod AlternateLemmas
