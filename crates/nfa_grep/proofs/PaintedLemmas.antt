@@ -1,5 +1,5 @@
 -- What is printed of matches and of numbers, and colours around it.
-use Rattle.nfa_paths.proofs.Common.{drop_split, ◌≡◌, ◌∙◌, ℕ, ◌+◌, ◌-◌, ◌<◌, Bool, false, List, [], ◌∷◌, ◌++◌, append_assoc, ap, arith, cases_Bool, common_steps, drop, get_or, inl, inr, length, map, refl, subst, sym, IfSome, Option, None, Some, ◌==◌, if◌then◌else◌, not, slice_range, drop_more, take_all, Found, found_of, whole, Match, true, decimal, join_with_byte, length-map, map-append, ◌≤◌, append-nil, All-drop, All-head, All-tail, All-take}
+use Rattle.nfa_paths.proofs.Common.{drop_split, ◌≡◌, ◌∙◌, ℕ, ◌+◌, ◌-◌, ◌<◌, false, List, [], ◌∷◌, ◌++◌, append_assoc, ap, arith, cases_Bool, common_steps, drop, get_or, inl, inr, length, map, refl, subst, sym, IfSome, Option, None, Some, ◌==◌, not, slice_range, drop_more, take_all, Found, found_of, whole, Match, true, decimal, join_with_byte, length-map, map-append, ◌≤◌, append-nil, All-drop, All-head, All-tail, All-take}
 use Rattle.grep_options.specs.Colours.{AreCodes, is_code, palette_of}
 use Rattle.nfa_search_base.specs.Common.{AreDisjoint, IsInside}
 use Rattle.program_text.specs.Lines.{with_end}

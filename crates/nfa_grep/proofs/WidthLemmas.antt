@@ -1,8 +1,8 @@
 -- The width of numbers changes neither what texts mean nor which lines are selected.
-use Rattle.nfa_paths.proofs.Common.{ℕ, List, [], ◌∷◌, Bool, false, true, ◌≡◌, Option, None, Some, MatchOption, Automaton}
+use Rattle.nfa_paths.proofs.Common.{ℕ, List, [], ◌∷◌, false, true, ◌≡◌, Option, None, Some, MatchOption, Automaton}
 use Rattle.nfa_choice.specs.ChoiceState.{ChoiceState}
 use Rattle.nfa_compiler.specs.Common.{IsNfaOf}
-use Rattle.nfa_grep.specs.Meant.{ArePatterns, IsBuilt, IsPattern, IsSearched, Options, Re}
+use Rattle.nfa_grep.specs.Meant.{ArePatterns, IsBuilt, IsSearched, Options, Re}
 use Rattle.nfa_grep.specs.Printed.{AreNeeded}
 
 -- the options with this width

@@ -1,5 +1,5 @@
 -- A way whose states are marked until one writes the slot writes it, so each match has it.
-use Rattle.nfa_paths.proofs.Common.{◌≡◌, ◌<◌, ◌+◌, All, Err, IfOk, IsTrue, Ok, Result, ◌/◌, ℕ, List, sum_by, slot_count, [], ◌∷◌, length, map, get_or, slice_get, slice_get_within, refl, sym, arith, rules, subst, inl, inr, is_some, true, false, Bool, Option, None, Some, option_and_then, option_or, range_with_len, slot_row, Search, Automaton, IsScanAnswer, IsSearchAnswer, IsAnswer, IsMatch, MatchKind, Node, In, Linked, HeadIs, EndsWith, Pair, PathTo, edges, starts, node_at, pattern_of, slot_of, path_pattern, raised, slot_among}
+use Rattle.nfa_paths.proofs.Common.{◌≡◌, ◌<◌, ◌+◌, All, Err, IfOk, IsTrue, Ok, Result, ◌/◌, ℕ, List, sum_by, slot_count, [], ◌∷◌, length, get_or, arith, inl, inr, is_some, true, false, Bool, Option, None, Some, option_and_then, slot_row, Search, Automaton, IsSearchAnswer, IsAnswer, IsMatch, MatchKind, Node, Linked, EndsWith, Pair, PathTo, edges, starts, node_at, pattern_of, path_pattern, raised, slot_among}
 use Rattle.std.proofs.lemmas.List.FromFn.{get_or-map-range_with_len}
 use Rattle.nfa_paths.specs.StatePaths.{IsStart, IsStatePath, open_edges, position_after, targets}
 use Rattle.nfa_paths.proofs.AnswerLemmas.{scan_answer-leads}

@@ -1,12 +1,11 @@
 -- The match of an anchored search, from its half match.
-use Rattle.nfa_paths.proofs.Common.{◌≡◌, ◌∙◌, ℕ, Bool, true, false, refl, sym, ap, subst, arith, get_or, ◌+◌, Option, None, Some, IfNone, IfSome, ◌<◌, ◌≤◌, length, option_and_then, option_map, lt-ltb, slice_get-get_or, Found, HalfFound, found_of, slot_count, Search, is_anchored, match_of, Match, MatchKind, Automaton, IsAutomaton, IsFindAnswer, IsHalfAnswer, byte_at, is_utf8_empty, path_pattern, slot_row, LeftmostFirst, List}
+use Rattle.nfa_paths.proofs.Common.{◌≡◌, ◌∙◌, ℕ, Bool, true, false, refl, sym, ap, subst, arith, get_or, ◌+◌, Option, None, Some, IfNone, IfSome, ◌<◌, ◌≤◌, length, option_and_then, option_map, lt-ltb, slice_get-get_or, Found, HalfFound, found_of, slot_count, Search, is_anchored, match_of, Match, MatchKind, Automaton, IsAutomaton, IsFindAnswer, IsHalfAnswer, byte_at, path_pattern, slot_row, LeftmostFirst, List}
 use Rattle.nfa_paths.proofs.InsideLemmas.{match-within}
-use Rattle.nfa_search_base.proofs.AskingLemmas.{pattern-of}
 use Rattle.nfa_paths.proofs.FirstStartLemmas.{next-first}
 use Rattle.nfa_engines.specs.Laws.{MatchesNothing}
 use Rattle.nfa_search_base.specs.Common.{end_of}
 use Rattle.nfa_engines.specs.StartLaws.{FirstStartMatches, IsFirstStart, StartsAnywhere, anchored_at}
-use Rattle.nfa_facts.specs.MatchSpanLaws.{AnchoredStartsTheSpan, HalfMatchesAreEnds, NoneIsNothing}
+use Rattle.nfa_facts.specs.MatchSpanLaws.{AnchoredStartsTheSpan, HalfMatchesAreEnds}
 use Rattle.nfa_facts.specs.StatePaths.{RecordsMatchSpans}
 use Rattle.nfa_meta.specs.Built.{IsRegexOf}
 use Rattle.nfa_meta.specs.RegexState.{KeepsRegex, RegexState}
@@ -50,24 +49,6 @@ module _ {nfa : Automaton} {x : Search} (bound : AnchoredSearch nfa x) (kind : M
   -- so the half match ends at or after the start
   pub half-after : (h : HalfFound) → IsHalfAnswer nfa kind earliest x (Some h) → x.start ≤ h.offset
   half-after h answers = (match-within nfa kind earliest x (match_at x.start h) (match-of-half (Some h) answers)).1
-
--- an answer that is known names a pattern of the NFA
-pub patterns-of : (nfa : Automaton) (kind : MatchKind) (earliest : Bool) (x : Search) → IsAutomaton nfa
-    → (known : Option (Option Match))
-    → IfSome known (λ found. IsFindAnswer nfa kind earliest x (option_map found_of found))
-    → IfSome known (λ found. IfSome found (λ m. (found_of m).pattern < length nfa.patterns))
-patterns-of nfa kind earliest x valid None answers = tt
-patterns-of nfa kind earliest x valid (Some found) answers = pattern-of nfa kind earliest x valid found answers
-
--- an anchored search that is known to have no match has no accepting path
-pub nothing-of : {nfa : Automaton} (kind : MatchKind) (earliest : Bool) (x : Search) → Recorded nfa
-    → NoneIsNothing → is_utf8_empty nfa ≡ false → (known : Option (Option Match))
-    → IfSome known (λ found. IsFindAnswer nfa kind earliest x (option_map found_of found))
-    → IfSome known (λ found. IfNone found (MatchesNothing nfa x))
-nothing-of kind earliest x of none anywhere None answers = tt
-nothing-of kind earliest x of none anywhere (Some None) answers =
-    none _ kind earliest x of.valid anywhere of.records answers
-nothing-of kind earliest x of none anywhere (Some (Some m)) answers = tt
 
 -- what is known of the anchored search at such a start of a window is what is known of the next one
 pub next-of : (nfa : Automaton) (x : Search) (s : ℕ) → IsFirstStart nfa x s → (known : Option (Option Match))

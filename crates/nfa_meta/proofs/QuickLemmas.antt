@@ -1,6 +1,5 @@
 -- A match that known cells lead to.
-use Rattle.nfa_paths.proofs.Common.{◌≡◌, ℕ, Bool, false, Option, None, Some, IfSome, ◌<◌, length, found_of, Search, Match, MatchKind, Automaton, IsAutomaton, IsFindAnswer, LeftmostFirst}
-use Rattle.nfa_search_base.proofs.AskingLemmas.{pattern-of}
+use Rattle.nfa_paths.proofs.Common.{ℕ, Bool, false, Option, None, Some, IfSome, found_of, Search, Match, MatchKind, Automaton, IsFindAnswer, LeftmostFirst}
 use Rattle.nfa_engines.specs.StartLaws.{FirstStartMatches, StartsAnywhere, anchored_at}
 use Rattle.nfa_meta.proofs.AnchoredLemmas.{HasFirstStart}
 

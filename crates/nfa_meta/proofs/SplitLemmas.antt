@@ -1,5 +1,5 @@
 -- The spans that the iterators around the matches of a text give.
-use Rattle.nfa_paths.proofs.Common.{◌≡◌, ◌≤◌, ◌<◌, ◌+◌, ◌∙◌, ◌⊎◌, ◌++◌, ◌∷◌, [], ℕ, zero, suc, List, None, Some, Option, none-some, true, false, ap, append-nil, arith, inl, inr, length, map, refl, subst, sym, take, take-append-le, take_all, true≢false, All, All-cons, All-head, All-nil, All-tail, Automaton, Found, found_of, Match, MatchKind, Search, Span, whole}
+use Rattle.nfa_paths.proofs.Common.{◌≡◌, ◌≤◌, ◌+◌, ◌∙◌, ◌⊎◌, ◌++◌, ◌∷◌, [], ℕ, zero, suc, List, None, Some, Option, none-some, true, false, ap, append-nil, arith, inl, inr, length, map, refl, subst, sym, take, take_all, true≢false, All, All-cons, All-head, All-nil, All-tail, Automaton, Found, found_of, Match, MatchKind, Search, Span, whole}
 use Rattle.std.proofs.iter.runs.Made.{run_of_exit, runs_from_along}
 use Rattle.nfa_search_base.specs.Common.{Answer, AnswersMatch, AreDisjoint, AreMatches, Fails, ItemsLast, ItemsNext, IterState, KeepsStepsWith, MatchesRun, Yields, after, fresh, span_of}
 use Rattle.nfa_search_base.proofs.ListLemmas.{as_items, matches-disjoint, matches-exist, matches-rest}
@@ -9,7 +9,7 @@ use Rattle.nfa_choice.specs.ChoiceState.{ChoiceState, kind_in}
 use Rattle.nfa_meta.specs.Gaps.{AreAllOf, AreFirstOf, IsSpanIn, IsSplit, gap_spans}
 use Rattle.nfa_meta.specs.Matches.{finds_next, finds_steps}
 use Rattle.nfa_meta.specs.RegexState.{KeepsRegex}
-use Rattle.nfa_meta.specs.Splits.{BeginsOne, BeginsSplit, IsSplitWithin, SplitGives, SplitGivesIn, SplitGivesKept, SplitNGives, SplitNGivesIn, SplitNGivesKept, SplitStep, ends_split, rest_of, split_next, splitn_next}
+use Rattle.nfa_meta.specs.Splits.{BeginsOne, BeginsSplit, IsSplitWithin, SplitGives, SplitGivesIn, SplitGivesKept, SplitNGives, SplitNGivesKept, SplitStep, ends_split, split_next, splitn_next}
 use Rattle.nfa_meta.specs.declared.regex.find_iter.FindMatches.{FindMatches}
 use Rattle.nfa_meta.specs.declared.regex.split_iter.Split.{Split}
 use Rattle.nfa_meta.specs.declared.regex.split_iter.SplitN.{SplitN}

@@ -1,5 +1,5 @@
 -- The spans that the iterator with a limit gives.
-use Rattle.nfa_paths.proofs.Common.{◌≡◌, ◌≤◌, ◌<◌, ◌+◌, ◌-◌, ◌∙◌, ◌⊎◌, ◌++◌, ◌∷◌, [], ℕ, zero, suc, List, None, Some, Option, true, false, ap, append-nil, arith, cases_lt, inl, inr, length, length-map, length-take-le, map, refl, subst, sym, take, take_all, All, Found, found_of, Match, Span, whole}
+use Rattle.nfa_paths.proofs.Common.{◌≡◌, ◌≤◌, ◌<◌, ◌+◌, ◌-◌, ◌∙◌, ◌⊎◌, ◌++◌, ◌∷◌, [], ℕ, zero, suc, List, None, Some, true, false, ap, append-nil, arith, cases_lt, inl, inr, length, length-map, length-take-le, map, refl, sym, take, take_all, All, Found, found_of, Span, whole}
 use Rattle.std.proofs.iter.runs.Made.{runs_from_along}
 use Rattle.nfa_search_base.specs.Common.{Yields}
 use Rattle.nfa_search_base.proofs.ListLemmas.{matches-exist, matches-rest}

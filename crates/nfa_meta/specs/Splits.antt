@@ -1,12 +1,11 @@
 -- The iterators over the spans around the matches of a text.
-use Rattle.std.specs.Prelude.{◌≡◌, ◌+◌, ℕ, zero, suc, All, Bool, List, length, MatchBool, None, Option, Some, false, true, min, if◌then◌else◌, [], ◌++◌}
+use Rattle.std.specs.Prelude.{◌≡◌, ◌+◌, ℕ, zero, suc, All, List, length, MatchBool, None, Option, Some, false, true, min, if◌then◌else◌, [], ◌++◌}
 use Rattle.nfa_paths.specs.Common.{Count, at_most}
 use Rattle.nfa_search_base.specs.Common.{EachRunFrom, GivesKept, KeepsStepsWith, Match, MatchesFirst, MatchesRun, MutBor, Span, found_of, matches_left, steps_iter_state, whole}
 use Rattle.nfa_choice.specs.ChoiceState.{ChoiceState, kind_in}
 use Rattle.nfa_meta.specs.Gaps.{IsSpanIn, IsSplitUpTo}
 use Rattle.nfa_meta.specs.Matches.{finds_next, finds_regex, finds_steps}
 use Rattle.nfa_meta.specs.RegexState.{KeepsRegex, RegexState}
-use Rattle.nfa_meta.specs.declared.regex.find_iter.FindMatches.{FindMatches}
 use Rattle.nfa_meta.specs.declared.regex.split_iter.Split.{Split}
 use Rattle.nfa_meta.specs.declared.regex.split_iter.SplitN.{SplitN}
 

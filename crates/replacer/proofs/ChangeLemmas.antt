@@ -1,5 +1,5 @@
 -- Changes are printed line by line.
-use Rattle.std.proofs.Common.{◌≡◌, ◌∙◌, ℕ, ◌+◌, ◌≤◌, arith, List, ◌++◌, refl, sym, subst, append_assoc, append-nil, Option, None, Some, [], ◌∷◌}
+use Rattle.std.proofs.Common.{◌≡◌, ℕ, ◌+◌, ◌≤◌, arith, List, ◌++◌, refl, sym, subst, append_assoc, append-nil, Option, None, Some, [], ◌∷◌}
 use Rattle.std.specs.Io.KnownBytes.{Appends}
 use Rattle.std.proofs.KnownBytes.{Appends-nil, Appends-trans}
 use Rattle.program_text.specs.Lines.{lines_of, HasNoRecord, TakesRecord, line_feed}

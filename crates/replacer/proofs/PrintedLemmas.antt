@@ -1,5 +1,5 @@
 -- From the text that was read to the reader, from the groups of the NFA to those of the patterns, and limits of lists.
-use Rattle.std.proofs.Common.{◌≡◌, ℕ, ◌-◌, ◌<◌, List, [], ◌∷◌, map, get_or, take, arith, Option, IfSome, length, All, None, Some}
+use Rattle.std.proofs.Common.{◌≡◌, ℕ, ◌-◌, ◌<◌, List, [], map, get_or, take, arith, Option, IfSome, length, All, None, Some}
 use Rattle.std.specs.Io.KnownBytes.{Appends}
 use Rattle.std.proofs.lemmas.Bool.Decides.{nat_tests}
 use Rattle.nfa_compiler.specs.Common.{Re, PatternHit, found_at}

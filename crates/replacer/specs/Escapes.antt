@@ -1,5 +1,5 @@
 -- The escapes of a template, as sed and shells have them, and what they stand for.
-use Rattle.std.specs.Prelude.{ℕ, ◌+◌, ◌*◌, ◌-◌, ◌≡◌, ◌≢◌, ◌⊎◌, ◌<◌, ◌≤◌, ◌&&◌, List, [], ◌∷◌, Option, Some, None, encode_utf8, flat_map, fold, if◌then◌else◌, length, nat_eq, nat_lt, reverse, slice_index, slice_range, ⊤}
+use Rattle.std.specs.Prelude.{ℕ, ◌+◌, ◌*◌, ◌-◌, ◌≡◌, ◌⊎◌, ◌<◌, ◌&&◌, List, [], ◌∷◌, Option, Some, None, encode_utf8, flat_map, fold, if◌then◌else◌, length, nat_eq, nat_lt, reverse, slice_index, slice_range, ⊤}
 use Rattle.std.specs.Char.{IsScalar, digit_value}
 use Rattle.std.specs.List.{AllWithin}
 use Rattle.replacer.specs.declared.case.CaseEscape.{CaseEscape}

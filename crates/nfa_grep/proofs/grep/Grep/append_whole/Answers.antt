@@ -1,6 +1,6 @@
 -- The line is printed after its head, in colours if there are any.
-use Rattle.nfa_paths.proofs.Common.{◌≡◌, ◌∙◌, ℕ, ◌++◌, Bool, List, ap, append_assoc, sym, subst, on_ok_weaker}
-use Rattle.nfa_grep.specs.Meant.{Grepping, Mean, Options, Re}
+use Rattle.nfa_paths.proofs.Common.{◌≡◌, ℕ, ◌++◌, Bool, List, append_assoc}
+use Rattle.nfa_grep.specs.Meant.{Options, Re}
 use Rattle.nfa_grep.specs.Printed.{has_text, head, line_in, mark_of, shown_whole}
 use Rattle.nfa_grep.proofs.grep.Grep.append_whole.Goals as goal
 

@@ -1,5 +1,5 @@
 -- The match starts with the span, and ends as the half match.
-use Rattle.nfa_paths.proofs.Common.{rules, ◌≤◌, Some, arith, common_steps, found_of, half_found_of, search_of, IsAutomaton, IsFindAnswer, IsHalfAnswer}
+use Rattle.nfa_paths.proofs.Common.{rules, ◌≤◌, Some, arith, common_steps, half_found_of, search_of, IsAutomaton, IsHalfAnswer}
 use Rattle.nfa_search_base.proofs.AskingLemmas.{pattern-of}
 use Rattle.nfa_choice.specs.ChoiceState.{kind_in}
 use Rattle.nfa_meta.proofs.AnchoredLemmas.{AnchoredSearch, half-after, match-of-half}

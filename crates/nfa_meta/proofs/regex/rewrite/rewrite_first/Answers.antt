@@ -4,7 +4,7 @@ use Rattle.std.proofs.lemmas.List.{length_push}
 use Rattle.nfa_search_base.specs.Common.{CapturesInside, HasGroups, match_in, with_cache}
 use Rattle.nfa_search_base.proofs.LentLemmas.{lent-more}
 use Rattle.nfa_meta.specs.CapturesSteps.{captures_call}
-use Rattle.nfa_meta.specs.Rewritten.{Writes, rewritten}
+use Rattle.nfa_meta.specs.Rewritten.{Writes}
 use Rattle.nfa_meta.proofs.CaughtLemmas.{first-caught, steps-first, steps-over, steps-turn}
 use Rattle.nfa_meta.proofs.RegexLemmas.{regex_self, regex_then}
 use Rattle.nfa_meta.proofs.RewriteLemmas.{rewritten-by, so_far-all, so_far-more, so_far-none}
