@@ -82,13 +82,13 @@ row-is [] row low = absurd (omega (arith, low))
 row-is (x ∷ rows) zero low = (x, refl)
 row-is (x ∷ rows) (suc row) low = row-is rows row (omega (arith, low))
 
--- The row's cell of the byte is this one, and its step is sure.
+-- the step over the byte, if the cell is known: each row that a walk may be at has it
 pub record HasStep (nfa : Automaton) (t : OnePass) (row b : ℕ) (cell : Cell) : Type 0 where
   pub kept : (r : Row) → slice_get t.rows.items row ≡ Some r → slice_get r.cells b ≡ Some cell
   pub known : cell.goal < 4294967294
   pub low : b < 256
 
--- a cell that is read from the rows of the table and the haystack of the search
+-- a cell that is read of rows and of a haystack which are those of the table and of the search
 pub has-step : (nfa : Automaton) (x : Search) (t : OnePass) (row at : ℕ) (cell : Cell) (rows : List Row)
     (haystack : List ℕ) → rows ≡ t.rows.items → haystack ≡ x.haystack → get_or haystack at 0 < 256
     → cell.goal < 4294967294
