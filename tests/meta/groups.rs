@@ -46,6 +46,12 @@ const PATTERNS: &[&[&str]] = &[
     &["(a)b", "(ab)", "([a-z])(.)"],
     &["([0-9]+)", "([a-z]+)(=)"],
     &["x(?:a|(b))", "-(-)?(a|b)"],
+    &[r"(\w+)=(\S+)\z"],
+    &["([a-z]+)(?: ([a-z]+))?$"],
+    &[r"(a)(b)\z|(a)"],
+    &["(?:(a)|b)*$"],
+    &["(?s-u)(.)(.*)$"],
+    &[r"(a*)(b|\z)", r"([a-z]*)\z"],
 ];
 
 fn choice_of(rt: &impl TestRuntime, patterns: &[&str]) -> Result<Choice, Fail> {
@@ -125,6 +131,34 @@ fn sure_steps_spare_a_search(rt: HostRuntime) -> Result<(), Fail> {
         let mut regex = Regex::new(rt.alloc(), pattern)?;
         let mut slots = [None; 6];
         regex.search_slots(&Input::new(b"ab=12"), &mut slots);
+        let wanted = [0, 5, 0, 2, 3, 5].map(NonMaxUsize::new);
+        assert_eq!(rt; slots, wanted, "{pattern}");
+        assert_eq!(rt; regex.ran().is_none(), walks, "{pattern}");
+    }
+    Ok(())
+}
+
+// If the only assertion is that of the end, and no match ends before it, an anchored search takes the steps alone.
+#[test]
+fn sure_steps_alone_answer_to_the_end(rt: HostRuntime) -> Result<(), Fail> {
+    for (pattern, walks) in [
+        (r"([a-z]+)=([0-9]+)\z", true),
+        ("([a-z]+)=([0-9]+)$", true),
+        ("([a-z]+)=(12)", true),
+        ("([a-z]+)=([0-9]+)", false),
+        ("^([a-z]+)=([0-9]+)$", false),
+        ("(?m)([a-z]+)=([0-9]+)$", false),
+        (r"([a-z]+)\b=([0-9]+)$", false),
+        ("([a-z]+)=([0-9]+)(?: .*)?$", true),
+        ("(ab|a)(?:=)?([b=0-9]+)$", false),
+    ] {
+        let config = Regex::config().hybrid(false);
+        let mut regex = Regex::builder()
+            .configure(config)
+            .build(rt.alloc(), pattern)?;
+        let input = Input::new(b"ab=12").anchored(Anchored::Yes);
+        let mut slots = [None; 6];
+        regex.search_slots(&input, &mut slots);
         let wanted = [0, 5, 0, 2, 3, 5].map(NonMaxUsize::new);
         assert_eq!(rt; slots, wanted, "{pattern}");
         assert_eq!(rt; regex.ran().is_none(), walks, "{pattern}");

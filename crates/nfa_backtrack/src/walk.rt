@@ -19,7 +19,7 @@ use crate::scratch::Scratch;
 use crate::turn::{cross, mark, state_at};
 use crate::visited::Visited;
 use nfa_scan_core::transitions::{byte_at, dense_target, range_target, sparse_target};
-use regex_search_core::{HalfMatch, Input, NonMaxUsize, PatternID, Refused, StateID};
+use regex_search_core::{HalfMatch, Input, NonMaxUsize, PatternID, Refused};
 use thompson_nfa::{Look, NFA, State, look_matches};
 
 /// The result of a turn.

@@ -7,7 +7,7 @@ use Rattle.regex_syntax.specs.Captures.{SameCaptures, outcome}
 use Rattle.regex_syntax.specs.Verdict.{ReadsAsText}
 use Rattle.nfa_paths.proofs.Common.{◌≡◌, ◌∙◌, ℕ, ◌+◌, ◌≤◌, ◌<◌, All, Bool, true, false, List, []}
 use Rattle.nfa_paths.proofs.Common.{◌∷◌, ◌++◌, drop, take, length, Option, None, Some, IfNone, IfSome, IsSomeAnd}
-use Rattle.nfa_paths.proofs.Common.{refl, sym, ap, subst, arith, chars, option_and_then, option_map}
+use Rattle.nfa_paths.proofs.Common.{refl, sym, ap, subst, arith, chars, option_and_then}
 use Rattle.std.proofs.Common.{take-append-drop, take_at, true≢false, if◌then◌else◌}
 use Rattle.std.proofs.lemmas.Option.{none-some, same_Some}
 use Rattle.nfa_compiler.specs.Common.{Match, find, Re, accept, attempt, literal, Nested, Names, read, byte_syntax}

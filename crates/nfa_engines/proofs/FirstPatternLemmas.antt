@@ -1,6 +1,6 @@
 -- If the anchored start tries the patterns in order, the first pattern that has an accepting path answers.
 use Rattle.nfa_paths.proofs.Common.{◌≡◌, ◌∙◌, ℕ, zero, suc, ◌≤◌, ◌<◌, ◌⊎◌, inl, inr, false, List, [], ◌∷◌, map, refl, sym, ap, arith, slice_get, None, Some, is_some, cases_eq, Search, Automaton, Node, Pair, In, Earlier, HeadIs, NoRepeats, Linked, EndsWith, ComesBefore, PathTo, capture, edges, edges_of, node_at, pattern_of, slot_of, starts, is_match, IsMatch, Yes}
-use Rattle.nfa_paths.proofs.FirstStartLemmas.{anchored-start, put-linked, start-there, StartsAt}
+use Rattle.nfa_paths.proofs.FirstStartLemmas.{anchored-start, put-linked, start-there}
 use Rattle.nfa_engines.specs.StartLaws.{alternates_of, started_at, IsUnionOfPatterns}
 use Rattle.nfa_paths.proofs.MemberLemmas.{same_some}
 use Rattle.nfa_paths.proofs.PathToLemmas.{EndsWith-cons}

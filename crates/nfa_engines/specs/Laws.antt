@@ -1,6 +1,6 @@
 -- Laws of scans, of searches and of what they answer, about the definitions only; and that no match is missed.
-use Rattle.std.specs.Prelude.{◌≡◌, ◌↔◌, ℕ, ◌+◌, ◌*◌, ◌≤◌, Bool, false, List, Option, None, Some, IfSome, ◌⊎◌, ◌-◌, true, option_map, is_some, length, take, drop, replicate}
-use Rattle.nfa_paths.specs.Common.{Found, Search, MatchKind, Automaton, IsAutomaton, Pair, HeadIs, PathTo, NoPath, edges, starts, is_utf8_empty, IsMatch, IsFindAnswer, path_pattern, slot_among, slot_count, match_of, ComesBefore, HalfFound, IsScanAnswer, IsSearchAnswer, IsAnswer, IsBoolAnswer, IsHalfAnswer, IsOverlapResult, LeftmostFirst}
+use Rattle.std.specs.Prelude.{◌≡◌, ◌↔◌, ℕ, ◌*◌, ◌≤◌, Bool, false, List, Option, None, Some, IfSome, ◌⊎◌, ◌-◌, true, option_map, is_some, length, take, drop, replicate}
+use Rattle.nfa_paths.specs.Common.{Found, Search, MatchKind, Automaton, IsAutomaton, Pair, HeadIs, PathTo, NoPath, edges, starts, is_utf8_empty, IsMatch, IsFindAnswer, slot_count, match_of, ComesBefore, HalfFound, IsScanAnswer, IsSearchAnswer, IsAnswer, IsBoolAnswer, IsHalfAnswer, IsOverlapResult, LeftmostFirst}
 pub use Rattle.nfa_paths.specs.Starts.{WritesItsEnds, MatchesNothing, MatchesSomething, MatchesPattern}
 
 -- each accepting path of the search does

@@ -1,10 +1,10 @@
 -- Laws of where the answer of a search starts, and of an NFA whose anchored start tries the starts of its patterns in
 -- their order, about the definitions only.
-use Rattle.std.specs.Prelude.{◌≡◌, ◌↔◌, ◌==◌, ℕ, ◌+◌, ◌<◌, ◌≤◌, Bool, false, List, Option, Some, ◌⊎◌, [], ◌∷◌, None, option_map, slice_get}
-use Rattle.nfa_paths.specs.Common.{Found, Search, MatchKind, Automaton, byte_at, is_utf8_empty, IsAnswer, IsFindAnswer, No, Yes, number_of, PatternID, IsAutomaton, Node, Pair, PathTo, edges, node_at, starts, Pattern, Union, BinaryUnion}
+use Rattle.std.specs.Prelude.{◌≡◌, ◌↔◌, ◌==◌, ℕ, ◌+◌, ◌<◌, ◌≤◌, Bool, false, List, Option, Some, option_map, slice_get}
+use Rattle.nfa_paths.specs.Common.{Found, Search, MatchKind, Automaton, byte_at, is_utf8_empty, IsAnswer, IsFindAnswer, No, Yes, number_of, PatternID, IsAutomaton, starts, Pattern}
 use Rattle.nfa_paths.specs.Paths.{NoMatchBegins}
 pub use Rattle.nfa_paths.specs.Starts.{from_start, anchored_at, IsUnbound, IsFirstStart, NothingAtByte, StartIsFirst, started_at, alternates_of, IsUnionOfPatterns, TriesPatternsInOrder, StartsMatchTheirPatterns}
-use Rattle.nfa_engines.specs.Laws.{MatchesNothing, MatchesPattern, MatchesSomething, Tells, PathsWriteTheirEnds}
+use Rattle.nfa_engines.specs.Laws.{MatchesNothing, MatchesSomething, Tells, PathsWriteTheirEnds}
 
 -- a match of the search may start at each position of its span: neither the search nor the NFA is anchored
 pub record StartsAnywhere (nfa : Automaton) (x : Search) : Type 0 where

@@ -1,5 +1,5 @@
 -- Each accepting path of a search is a way, and so writes its bounds if each way does.
-use Rattle.nfa_paths.proofs.Common.{◌≡◌, ℕ, suc, zero, ◌+◌, inl, inr, List, [], ◌∷◌, map, refl, sym, arith, subst, Option, Some, None, true, Bool, option_map, option_and_then, option_to_list, filter_map, if◌then◌else◌, slice_get, Search, is_anchored, Automaton, Node, look_holds, Pair, In, Linked, PathTo, node_at, starts, edges, edges_of, byte_at, target_on, first_target, holds_byte, Transition, ByteRange, Sparse, Dense, Look}
+use Rattle.nfa_paths.proofs.Common.{◌≡◌, List, refl, arith, true, Search, is_anchored, Automaton, Pair, In, PathTo, starts, edges}
 use Rattle.nfa_paths.proofs.FirstStartLemmas.{start-of}
 use Rattle.nfa_facts.specs.MatchSpanLaws.{EverySearchIsRecorded}
 use Rattle.nfa_paths.specs.StatePaths.{IsStatePath}

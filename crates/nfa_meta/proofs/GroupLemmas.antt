@@ -23,6 +23,14 @@ module _ (nfa : Automaton) (kind : MatchKind) (x : Search) (slots : List (Option
       (rw first (law nfa x m (number_of p) slots valid records
       (rw first at (subst (λ (b : Bool). IsFindAnswer nfa kind b x (Some m)) latest answer)) (rw is at o))))
 
+  -- so are those that sure steps over the whole span write
+  pub whole-answers : kind ≡ LeftmostFirst → x.earliest ≡ false
+      → IfSome found (λ p. IsAnswer nfa LeftmostFirst false x (Some (number_of p)) slots)
+      → IfSome found (λ p. IsAnswer nfa kind x.earliest x (Some (number_of p)) slots)
+  whole-answers first latest answer =
+      IfSome_then found answer (λ p a.
+      subst (λ (b : Bool). IsAnswer nfa kind b x (Some (number_of p)) slots) (sym latest) (rw first a))
+
   -- they are in the span, and the pattern is one of the NFA
   pub groups-write : (old : List (Option ℕ)) → IsAutomaton nfa
       → IfSome found (λ p. IsAnswer nfa kind x.earliest x (Some (number_of p)) slots)

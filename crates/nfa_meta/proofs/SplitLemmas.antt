@@ -1,5 +1,5 @@
 -- The spans that the iterators around the matches of a text give.
-use Rattle.nfa_paths.proofs.Common.{◌≡◌, ◌≤◌, ◌+◌, ◌∙◌, ◌⊎◌, ◌++◌, ◌∷◌, [], ℕ, zero, suc, List, None, Some, Option, none-some, true, false, ap, append-nil, arith, inl, inr, length, map, refl, subst, sym, take, take_all, true≢false, All, All-cons, All-head, All-nil, All-tail, Automaton, Found, found_of, Match, MatchKind, Search, Span, whole}
+use Rattle.nfa_paths.proofs.Common.{◌≡◌, ◌≤◌, ◌∙◌, ◌⊎◌, ◌++◌, ◌∷◌, [], ℕ, zero, suc, List, None, Some, Option, none-some, true, false, ap, append-nil, arith, inl, inr, length, map, refl, subst, sym, take, take_all, true≢false, All, All-cons, All-head, All-nil, All-tail, Automaton, Found, found_of, Match, MatchKind, Search, Span, whole}
 use Rattle.std.proofs.iter.runs.Made.{run_of_exit, runs_from_along}
 use Rattle.nfa_search_base.specs.Common.{Answer, AnswersMatch, AreDisjoint, AreMatches, Fails, ItemsLast, ItemsNext, IterState, KeepsStepsWith, MatchesRun, Yields, after, fresh, span_of}
 use Rattle.nfa_search_base.proofs.ListLemmas.{as_items, matches-disjoint, matches-exist, matches-rest}

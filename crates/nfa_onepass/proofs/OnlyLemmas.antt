@@ -46,12 +46,11 @@ module _ (cuts : SearchMayBeCut LeftmostFirst false) (ones : MatchesAreOfPaths) 
           linked = z.path.linked;
           ends = z.path.ends;
           matches = z.accepts;
-          at = sym z.end_is ∙ o.end_is;
         } in
         let there : IsOnly nfa y k slots =
         subst (λ (e : ℕ). IsOnly nfa (cut_to x o.path.start.1 e x.anchored) k slots) o.end_is
         (subst (λ (a : ℕ). IsOnly nfa (cut_to x a m.end x.anchored) k slots) o.start_is only) in
-        let r = there.only z.path.start.0 z.end p begins tail in
+        let r = there.only z.path.start.0 z.end p begins tail (sym z.end_is ∙ o.end_is) in
         record {
           restarts = restarts;
           path = Some p;

@@ -1,14 +1,16 @@
 -- A table that grows keeps its steps, and a walk that takes one goes on.
 use Rattle.std.specs.Global.{Vec}
-use Rattle.nfa_paths.proofs.Common.{◌≡◌, ◌∙◌, ℕ, zero, suc, ◌+◌, ◌*◌, ◌<◌, ◌≤◌, ◌⊎◌, inl, inr, List, [], ◌∷◌, ◌++◌, replicate, slice_get, slice_set, slice_index_or, get_or, get_or_from_slice_get, slice_get-get_or, none-some, refl, sym, ap, subst, arith, length, length-append, length-set, Option, None, Some, option_map, Automaton, Search, Slots, byte_at, start_state, length-replicate}
+use Rattle.nfa_paths.proofs.Common.{◌≡◌, ◌∙◌, ℕ, zero, suc, ◌+◌, ◌*◌, ◌<◌, ◌≤◌, ◌⊎◌, inl, inr, List, [], ◌∷◌, ◌++◌, replicate, slice_get, slice_set, slice_index_or, get_or, get_or_from_slice_get, slice_get-get_or, none-some, refl, sym, ap, subst, arith, length, length-append, length-set, Bool, false, true, cases_Bool, slice_get_within, Option, None, Some, option_map, Automaton, Search, Slots, byte_at, start_state, length-replicate}
 use Rattle.nfa_paths.proofs.MemberLemmas.{same_some}
-use Rattle.nfa_onepass.specs.Ways.{IsOnWay, IsOnly, IsSure, write_each}
+use Rattle.nfa_onepass.specs.Ways.{HasOnlyEnds, IsOnWay, IsOnly, IsSure, IsWhole, write_each}
 use Rattle.nfa_onepass.specs.Lists.{HasEmptyList, Keeps, list_at}
-use Rattle.nfa_onepass.specs.Tables.{IsFor, IsFresh, IsStep, IsWalking, KeepsRows, Takes, byte_of, limit_of, memory_of, state_at}
+use Rattle.nfa_onepass.specs.Tables.{IsFor, IsFresh, IsStep, IsWalking, KeepsRows, Takes, byte_of, limit_of, looks_over, memory_of, state_at}
 use Rattle.nfa_onepass.specs.declared.table.Cell.{Cell}
+use Rattle.nfa_onepass.specs.declared.lists.Lists.{Lists}
 use Rattle.nfa_onepass.specs.declared.table.OnePass.{OnePass}
 use Rattle.nfa_onepass.specs.declared.table.Row.{Row}
-use Rattle.nfa_onepass.proofs.WayLemmas.{IsOnWay-first, IsOnWay-step, IsOnly-end, length-write_each}
+use Rattle.nfa_onepass.specs.declared.table.Setup.{Setup}
+use Rattle.nfa_onepass.proofs.WayLemmas.{Covers, Covers-all, Covers-none, IsOnWay-first, IsOnWay-step, IsOnly-end, IsReachedFrom-first, IsReachedFrom-step, IsWhole-end, length-write_each}
 
 pub Keeps-refl : (lists : List (Vec ℕ)) → Keeps lists lists
 Keeps-refl lists = record { longer = omega arith; same = λ i inside. refl }
@@ -27,22 +29,40 @@ HasEmptyList-keeps old new k h = record {
 }
 
 -- a step stays sure
-pub IsStep-keeps : (nfa : Automaton) (rows more : List Row) (lists new : List (Vec ℕ)) (s column : ℕ) (cell : Cell)
-    → KeepsRows rows more → Keeps lists new → IsStep nfa rows lists s column cell → IsStep nfa more new s column cell
-IsStep-keeps nfa rows more lists new s column cell kept k h = record {
+pub IsStep-keeps : (nfa : Automaton) (rows more : List Row) (lists new : List (Vec ℕ)) (looks : Bool) (s column : ℕ)
+    (cell : Cell) → KeepsRows rows more → Keeps lists new → IsStep nfa rows lists looks s column cell
+    → IsStep nfa more new looks s column cell
+IsStep-keeps nfa rows more lists new looks s column cell kept k h = record {
   goal = h.goal;
   inside = let x = k.longer in let y = h.inside in omega arith;
-  sure = subst (IsSure nfa s (byte_of column) h.goal) (sym (k.same cell.list h.inside)) h.sure;
+  sure = subst (IsSure nfa (looks_over looks (byte_of column)) s (byte_of column) h.goal)
+      (sym (k.same cell.list h.inside)) h.sure;
+  shut = h.shut;
   leads = λ low. kept cell.goal h.goal (h.leads low);
   ends = h.ends;
 }
 
+-- a byte of the span is one of the haystack
+byte-inside : (x : Search) (at b : ℕ) → byte_at x at ≡ Some b → at < length x.haystack
+byte-inside x at b e = grind (arith, slice_get_within)
+
+-- before the end of the haystack, steps of a table cover what states lead to
+covers-for : (nfa : Automaton) (x : Search) (t : OnePass) (at : ℕ) → IsFor nfa t → at < length x.haystack
+    → Covers nfa x t.setup.looks at
+covers-for nfa x t at own low =
+    elim (cases_Bool t.setup.looks) [
+      | inl may ↦ subst (λ (b : Bool). Covers nfa x b at) (sym may) (Covers-all nfa x at)
+      | inr plain ↦ subst (λ (b : Bool). Covers nfa x b at) (sym plain) (Covers-none nfa x (own.ends plain) at low)
+    ]
+
 -- a walk that takes a step over the byte at its position is at the next one
 pub IsWalking-takes : (nfa : Automaton) (x : Search) (old new : OnePass) (row b at : ℕ) (slots after : Slots) (next : ℕ)
-    → (h : IsWalking nfa x old row at slots) → byte_at x at ≡ Some b → Takes nfa new h.state b at slots after next
-    → IsWalking nfa x new next (at + 1) after
-IsWalking-takes nfa x old new row b at slots after next h e t =
-    let made = IsOnWay-step nfa x (length slots) h.first h.state at b t.to t.written slots h.on e t.sure in
+    → IsFor nfa new → new.setup ≡ old.setup → (h : IsWalking nfa x old row at slots) → byte_at x at ≡ Some b
+    → Takes nfa new h.state b at slots after next → IsWalking nfa x new next (at + 1) after
+IsWalking-takes nfa x old new row b at slots after next own same h e t =
+    let looks = new.setup.looks in
+    let covers = covers-for nfa x new at own (byte-inside x at b e) in
+    let made = IsOnWay-step nfa x looks (length slots) h.first h.state at b t.to t.written slots covers h.on e t.sure in
     let long : length slots ≡ length after = sym (ap length t.writes ∙ length-write_each t.written at slots) in
     record {
       first = h.first;
@@ -51,6 +71,10 @@ IsWalking-takes nfa x old new row b at slots after next h e t =
       here = t.is;
       on = subst (λ (z : Slots). IsOnWay nfa x (length after) h.first (t.to, at + 1) z) (sym t.writes)
           (subst (λ (n : ℕ). IsOnWay nfa x n h.first (t.to, at + 1) (write_each t.written at slots)) long made);
+      reached = λ plain. IsReachedFrom-step nfa x (length slots) h.first h.state at b t.to t.written slots
+          (subst (λ (z : Bool). Covers nfa x z at) plain covers) h.on
+          (h.reached (ap (λ (s : Setup). s.looks) (sym same) ∙ plain)) e
+          (subst (λ (z : Bool). IsSure nfa z h.state (Some b) t.to t.written) plain t.sure) (t.shut plain);
     }
 
 -- the column of a byte
@@ -82,7 +106,7 @@ row-is [] row low = absurd (omega (arith, low))
 row-is (x ∷ rows) zero low = (x, refl)
 row-is (x ∷ rows) (suc row) low = row-is rows row (omega (arith, low))
 
--- the step over the byte, if the cell is known: each row that a walk may be at has it
+-- the row's cell of the byte is this one, and its step is sure
 pub record HasStep (nfa : Automaton) (t : OnePass) (row b : ℕ) (cell : Cell) : Type 0 where
   pub kept : (r : Row) → slice_get t.rows.items row ≡ Some r → slice_get r.cells b ≡ Some cell
   pub known : cell.goal < 4294967294
@@ -101,8 +125,9 @@ has-step nfa x t row at cell rows haystack same read low known kept =
       low = low;
     })
 
+-- the step of such a cell
 step-of : (nfa : Automaton) (t : OnePass) (row b : ℕ) (cell : Cell) (r : Row) → IsFor nfa t → HasStep nfa t row b cell
-    → slice_get t.rows.items row ≡ Some r → IsStep nfa t.rows.items t.lists.items.items r.state b cell
+    → slice_get t.rows.items row ≡ Some r → IsStep nfa t.rows.items t.lists.items.items t.setup.looks r.state b cell
 step-of nfa t row b cell r own has is = own.steps row b r cell is (has.kept r is) has.known
 
 -- such a step leads to a row
@@ -119,17 +144,18 @@ pub IsWalking-goes : (nfa : Automaton) (x : Search) (t : OnePass) (row b at : �
     → IsWalking nfa x t row at slots → IsWalking nfa x t cell.goal (at + 1) slots
 IsWalking-goes nfa x t row b at cell slots own is has none w =
     let there = row-there t.rows.items row w.state w.here in
-    let step = subst (λ (s : ℕ). IsStep nfa t.rows.items t.lists.items.items s b cell) there.2
+    let step = subst (λ (s : ℕ). IsStep nfa t.rows.items t.lists.items.items t.setup.looks s b cell) there.2
     (step-of nfa t row b cell there.0 own has there.1) in
     let empty : list_at t.lists.items.items cell.list ≡ [] =
     ap (list_at t.lists.items.items) none ∙ own.first.empty in
-    IsWalking-takes nfa x t t row b at slots slots cell.goal w is (record {
+    IsWalking-takes nfa x t t row b at slots slots cell.goal own refl w is (record {
       to = step.goal;
       written = [];
       is = step.leads has.low;
-      sure = subst (IsSure nfa w.state (Some b) step.goal) empty
-          (subst (λ (o : Option ℕ). IsSure nfa w.state o step.goal (list_at t.lists.items.items cell.list))
-          (byte_of-low b has.low) step.sure);
+      sure = subst (IsSure nfa t.setup.looks w.state (Some b) step.goal) empty
+          (subst (λ (o : Option ℕ). IsSure nfa (looks_over t.setup.looks o) w.state o step.goal
+          (list_at t.lists.items.items cell.list)) (byte_of-low b has.low) step.sure);
+      shut = λ plain. step.shut plain has.low;
       writes = refl;
     })
 
@@ -147,21 +173,30 @@ IsWalking-begin nfa x t row s count slots begins is unset =
       on = subst (λ (z : Slots). IsOnWay nfa x (length slots) s (s, x.start) z) (sym unset)
           (subst (λ (n : ℕ). IsOnWay nfa x n s (s, x.start) (replicate count None)) long
           (IsOnWay-first nfa x count s));
+      reached = λ plain. IsReachedFrom-first nfa x s;
     }
   where
     replicate-long : (n : ℕ) → length (replicate {A = Option ℕ} n None) ≡ n
     replicate-long = grind (arith, length-replicate)
 
 -- A walk at the end of the span, and the step to a Match there, give the slots and the pattern.
-pub IsWalking-end : (nfa : Automaton) (x : Search) (t u : OnePass) (row p : ℕ) (cell : Cell) (slots after : Slots)
-    → (h : IsWalking nfa x t row x.end slots) → IsStep nfa u.rows.items u.lists.items.items h.state 256 cell
-    → p ≡ cell.goal → after ≡ write_each (list_at u.lists.items.items cell.list) x.end slots → IsOnly nfa x p after
-IsWalking-end nfa x t u row p cell slots after h step is writes =
-    let k : step.goal ≡ p = sym (step.ends (omega arith)) ∙ sym is in
-    subst (λ (z : Slots). IsOnly nfa x p z) (sym writes)
-    (subst (λ (n : ℕ). IsOnly nfa x n (write_each (list_at u.lists.items.items cell.list) x.end slots)) k
-    (IsOnly-end nfa x (length slots) h.first h.state step.goal (list_at u.lists.items.items cell.list) slots refl
-    h.begins h.on step.sure))
+module _ (nfa : Automaton) (x : Search) (t u : OnePass) (row p : ℕ) (cell : Cell) (slots after : Slots)
+    (h : IsWalking nfa x t row x.end slots)
+    (step : IsStep nfa u.rows.items u.lists.items.items u.setup.looks h.state 256 cell) (is : p ≡ cell.goal)
+    (writes : after ≡ write_each (list_at u.lists.items.items cell.list) x.end slots) where
+  pub IsWalking-end : IsOnly nfa x p after
+  IsWalking-end =
+      let k : step.goal ≡ p = sym (step.ends (omega arith)) ∙ sym is in
+      subst (λ (z : Slots). IsOnly nfa x p z) (sym writes)
+      (subst (λ (n : ℕ). IsOnly nfa x n (write_each (list_at u.lists.items.items cell.list) x.end slots)) k
+      (IsOnly-end nfa x (length slots) h.first h.state step.goal (list_at u.lists.items.items cell.list) slots refl
+      h.begins h.on step.sure))
+
+  -- and that of the whole span, if its steps passed no assertion
+  pub IsWalking-whole : HasOnlyEnds nfa → t.setup.looks ≡ false → x.end ≡ length x.haystack → IsWhole nfa x p after
+  IsWalking-whole ends plain whole =
+      IsWhole-end nfa x (length slots) h.first h.state step.goal p (list_at u.lists.items.items cell.list) slots after
+      ends whole h.begins h.on (h.reached plain) step.sure IsWalking-end
 
 -- what a list holds after one of its elements was set
 set-cases : {A : Type 0} (xs : List A) (i j : ℕ) (y z : A) → slice_get (slice_set xs i y) j ≡ Some z
@@ -208,31 +243,47 @@ pub KeepsRows-set : (rows : List Row) (i column : ℕ) (kept : Row) (cell : Cell
 KeepsRows-set rows i column kept cell is j s e =
     state-set rows i j kept (record { state = kept.state; cells = slice_set kept.cells column cell }) is refl ∙ e
 
--- both tables have the same limits
+-- both tables have the same limits, and are made for the same
 pub record SameLimits (t u : OnePass) : Type 0 where
   pub rows : u.most_rows ≡ t.most_rows
   pub lists : u.lists.most ≡ t.lists.most
-  pub limit : u.limit ≡ t.limit
+  pub setup : u.setup ≡ t.setup
 
 -- so a table has room if the other one has
-room-same : (t u : OnePass) → SameLimits t u → 2060 * t.most_rows + t.lists.most ≤ t.limit
-    → 2060 * u.most_rows + u.lists.most ≤ u.limit
-room-same t u same room = omega (arith, same.rows, same.lists, same.limit, room)
+room-same : (t u : OnePass) → SameLimits t u → 2060 * t.most_rows + t.lists.most ≤ t.setup.limit
+    → 2060 * u.most_rows + u.lists.most ≤ u.setup.limit
+room-same t u same room =
+    omega (arith, same.rows, same.lists, ap (λ (s : Setup). s.limit) same.setup, room)
+
+-- so what is a step of the one is a step of the other, if rows and lists were added
+step-same : (nfa : Automaton) (t u : OnePass) (s column : ℕ) (cell : Cell) → SameLimits t u
+    → KeepsRows t.rows.items u.rows.items → Keeps t.lists.items.items u.lists.items.items
+    → IsStep nfa t.rows.items t.lists.items.items t.setup.looks s column cell
+    → IsStep nfa u.rows.items u.lists.items.items u.setup.looks s column cell
+step-same nfa t u s column cell same more old step =
+    subst (λ (z : Setup). IsStep nfa u.rows.items u.lists.items.items z.looks s column cell) (sym same.setup)
+    (IsStep-keeps nfa t.rows.items u.rows.items t.lists.items.items u.lists.items.items t.setup.looks s column cell
+    more old step)
+
+-- and the assertions of the NFA are those that the one says
+ends-same : (nfa : Automaton) (t u : OnePass) → SameLimits t u → (t.setup.looks ≡ false → HasOnlyEnds nfa)
+    → u.setup.looks ≡ false → HasOnlyEnds nfa
+ends-same nfa t u same ends plain = ends (ap (λ (s : Setup). s.looks) (sym same.setup) ∙ plain)
 
 pub IsFor-set : (nfa : Automaton) (t u : OnePass) (i column s : ℕ) (kept : Row) (cell : Cell)
     → kept ≡ slice_index_or t.rows.items i kept
     → u.rows.items
     ≡ slice_set t.rows.items i (record { state = kept.state; cells = slice_set kept.cells column cell })
     → u.lists.items.items ≡ t.lists.items.items → SameLimits t u → IsFor nfa t → state_at t.rows.items i ≡ Some s
-    → (cell.goal < 4294967294 → IsStep nfa t.rows.items t.lists.items.items s column cell) → IsFor nfa u
+    → (cell.goal < 4294967294 → IsStep nfa t.rows.items t.lists.items.items t.setup.looks s column cell)
+    → IsFor nfa u
 IsFor-set nfa t u i column s kept cell is rows lists same h here step =
     let new : Row = record { state = kept.state; cells = slice_set kept.cells column cell } in
     let more : KeepsRows t.rows.items u.rows.items =
     subst (KeepsRows t.rows.items) (sym rows) (KeepsRows-set t.rows.items i column kept cell is) in
     let old : Keeps t.lists.items.items u.lists.items.items =
     subst (Keeps t.lists.items.items) (sym lists) (Keeps-refl t.lists.items.items) in
-    let carry = λ (z k : ℕ) (c : Cell).
-    IsStep-keeps nfa t.rows.items u.rows.items t.lists.items.items u.lists.items.items z k c more old in
+    let carry = λ (z k : ℕ) (c : Cell). step-same nfa t u z k c same more old in
     record {
       states = λ row z e. h.states row z (sym (state-set t.rows.items i row kept new is refl)
           ∙ ap (λ (xs : List Row). state_at xs row) (sym rows) ∙ e);
@@ -243,7 +294,7 @@ IsFor-set nfa t u i column s kept cell is rows lists same h here step =
                 ∙ get_or_from_slice_get t.rows.items row m.2.0 kept m.2.1 in
                 let there : slice_get t.rows.items row ≡ Some kept = m.2.1 ∙ ap (λ (z : Row). Some z) (sym x_is) in
                 let states_are : kept.state ≡ r.state = ap (λ (z : Row). z.state) (sym m.1) in
-                subst (λ (z : ℕ). IsStep nfa u.rows.items u.lists.items.items z k c) states_are
+                subst (λ (z : ℕ). IsStep nfa u.rows.items u.lists.items.items u.setup.looks z k c) states_are
                 (elim (set-cases kept.cells column k cell c
                 (ap (λ (z : Row). slice_get z.cells k) (sym m.1) ∙ f)) [
                   | inl n ↦
@@ -251,10 +302,11 @@ IsFor-set nfa t u i column s kept cell is rows lists same h here step =
                       ∙ ap (λ (q : ℕ). state_at t.rows.items q) m.0
                       ∙ ap (λ (o : Option Row). option_map (λ (z : Row). z.state) o) there) in
                       let c_low : cell.goal < 4294967294 = subst (λ (z : Cell). z.goal < 4294967294) n.1 low in
-                      carry kept.state k c (subst (λ (z : ℕ). IsStep nfa t.rows.items t.lists.items.items z k c) s_is
-                      (subst (λ (q : ℕ). IsStep nfa t.rows.items t.lists.items.items s q c) n.0
-                      (subst (λ (z : Cell). IsStep nfa t.rows.items t.lists.items.items s column z) (sym n.1)
-                      (step c_low))))
+                      carry kept.state k c
+                      (subst (λ (z : ℕ). IsStep nfa t.rows.items t.lists.items.items t.setup.looks z k c) s_is
+                      (subst (λ (q : ℕ). IsStep nfa t.rows.items t.lists.items.items t.setup.looks s q c) n.0
+                      (subst (λ (z : Cell). IsStep nfa t.rows.items t.lists.items.items t.setup.looks s column z)
+                      (sym n.1) (step c_low))))
                   | inr n ↦ carry kept.state k c (h.steps row k kept c there n low)
                 ])
             | inr there ↦ carry r.state k c (h.steps row k r c there f low)
@@ -263,6 +315,7 @@ IsFor-set nfa t u i column s kept cell is rows lists same h here step =
       fits = omega (arith, h.fits, same.rows, ap length rows, length-set t.rows.items i new);
       few = omega (arith, h.few, same.rows);
       room = room-same t u same h.room;
+      ends = ends-same nfa t u same h.ends;
     }
 
 -- a table takes no more bytes than it may
@@ -294,13 +347,13 @@ IsFor-push nfa t u r s rows lists limits more_fit h fresh inside =
             | inl same ↦
                 let none = fresh.unknown k c (ap (λ (y : Row). slice_get y.cells k) (sym same) ∙ f) in
                 absurd (omega (arith, none, low))
-            | inr there ↦ IsStep-keeps nfa t.rows.items u.rows.items t.lists.items.items u.lists.items.items q.state k c
-                more old (h.steps row k q c there f low)
+            | inr there ↦ step-same nfa t u q.state k c limits more old (h.steps row k q c there f low)
           ];
       first = subst HasEmptyList (sym lists) h.first;
       fits = omega (arith, more_fit, limits.rows, ap length rows, length-append t.rows.items (r ∷ []));
       few = omega (arith, h.few, limits.rows);
       room = room-same t u limits h.room;
+      ends = ends-same nfa t u limits h.ends;
     }
 
 -- a table is one of the NFA whatever lists are added
@@ -308,11 +361,25 @@ pub IsFor-lists : (nfa : Automaton) (t u : OnePass) → u.rows.items ≡ t.rows.
     → Keeps t.lists.items.items u.lists.items.items → SameLimits t u → IsFor nfa t → IsFor nfa u
 IsFor-lists nfa t u rows keeps same h = record {
   states = λ row z e. h.states row z (ap (λ (xs : List Row). state_at xs row) (sym rows) ∙ e);
-  steps = λ row k r c e f low. IsStep-keeps nfa t.rows.items u.rows.items t.lists.items.items u.lists.items.items
-      r.state k c (λ j s g. ap (λ (xs : List Row). state_at xs j) rows ∙ g) keeps
+  steps = λ row k r c e f low. step-same nfa t u r.state k c same
+      (λ j s g. ap (λ (xs : List Row). state_at xs j) rows ∙ g) keeps
       (h.steps row k r c (ap (λ (xs : List Row). slice_get xs row) (sym rows) ∙ e) f low);
   first = HasEmptyList-keeps t.lists.items.items u.lists.items.items keeps h.first;
   fits = omega (arith, h.fits, same.rows, ap length rows);
   few = omega (arith, h.few, same.rows);
   room = room-same t u same h.room;
+  ends = ends-same nfa t u same h.ends;
+}
+
+-- a table without rows is one of the NFA, whatever it was made for
+pub IsFor-none : (nfa : Automaton) (t u : OnePass) → u.rows.items ≡ [] → u.lists ≡ t.lists
+    → u.most_rows ≡ t.most_rows → u.setup.limit ≡ t.setup.limit → u.setup.looks ≡ true → IsFor nfa t → IsFor nfa u
+IsFor-none nfa t u rows lists most limit looks h = record {
+  states = λ row s e. elim (none-some s (ap (λ (xs : List Row). state_at xs row) (sym rows) ∙ e)) [ ];
+  steps = λ row k r c e f low. elim (none-some r (ap (λ (xs : List Row). slice_get xs row) (sym rows) ∙ e)) [ ];
+  first = subst (λ (l : Lists). HasEmptyList l.items.items) (sym lists) h.first;
+  fits = omega (arith, ap length rows);
+  few = omega (arith, h.few, most);
+  room = omega (arith, h.room, most, limit, ap (λ (l : Lists). l.most) lists);
+  ends = λ plain. cc;
 }

@@ -1,13 +1,15 @@
 //! The table of sure steps: a row for each state that a walk came to, with a cell for each byte and one for the end.
-ghost use Rattle.std.specs.Prelude.{◌≡◌, ℕ, ◌*◌, ◌<◌, ◌≤◌, IfOk, IfSome, Some, length, min};
+ghost use Rattle.std.specs.Prelude.{◌≡◌, ℕ, ◌*◌, ◌<◌, ◌≤◌, IfOk, IfSome, Some, length, min, true};
 ghost use Rattle.nfa_onepass.specs.Tables.{IsAddedIf, IsFor, IsFresh, IsReached, IsStep, KeepsRows, byte_of, limit_of};
-ghost use Rattle.nfa_onepass.specs.Tables.{memory_of, state_at};
+ghost use Rattle.nfa_onepass.specs.Tables.{looks_over, memory_of, state_at};
+ghost use Rattle.nfa_onepass.specs.Ways.{HasOnlyEnds, IsOnlyEnd};
+ghost use Rattle.thompson_nfa.specs.Automaton.{node_of};
 
 use crate::lists::{Lists, NO_SLOTS};
-use crate::way::{Thread, WayEnd, only_way};
+use crate::way::{NoWay, Thread, WayEnd, only_way};
 use regex_search_core::StateID;
 use std::alloc::{AllocError, Global};
-use thompson_nfa::NFA;
+use thompson_nfa::{Look, NFA, State};
 
 /// The number of cells of a row: one for each byte, and one for the end of the span.
 pub const COLUMNS: usize = 257;
@@ -44,6 +46,16 @@ pub struct Row {
     pub cells: [Cell; COLUMNS],
 }
 
+/// What a table is made for.
+#[derive(Clone, Copy)]
+pub struct Setup {
+    /// The most bytes that rows and lists may take.
+    limit: usize,
+    /// Whether a step over a byte may pass an assertion. If not, the only assertion of the NFA is that of the end of
+    /// the haystack, and no state that has a sure step leads to a match before it.
+    pub(crate) looks: bool,
+}
+
 /// Sure steps of an NFA, as far as searches needed them.
 #[derive(Drop)]
 pub struct OnePass {
@@ -55,8 +67,9 @@ pub struct OnePass {
     stack: Vec<Thread>,
     /// The number of rows that there is room for.
     pub(crate) most_rows: usize,
-    /// The most bytes that rows and lists may take.
-    limit: usize,
+    pub(crate) setup: Setup,
+    /// Whether a search came to a state that leads to a match where no assertion holds.
+    pub(crate) matches_early: bool,
     /// What searches that met a step that is not sure add, less what the others take off.
     pub(crate) misses: u32,
 }
@@ -79,6 +92,28 @@ fn rows_within(bytes: usize) -> usize
     ensures few { result ≤ 1024 }
 {
     (bytes / ROW_BYTES).min(MAX_ROWS)
+}
+
+/// Whether an assertion of the state, if it has one, is that of the end of the haystack.
+fn is_only_end(state: &State) -> bool
+    ensures { result ≡ true → IsOnlyEnd (node_of state.now) }
+{
+    match state {
+        State::Look { look, .. } => matches!(look, Look::End),
+        _ => true,
+    }
+}
+
+/// Whether each assertion of the NFA is that of the end of the haystack.
+fn has_only_ends(nfa: &NFA) -> bool
+    ensures { result ≡ true → HasOnlyEnds nfa.now }
+{
+    for state in nfa.states() {
+        if !is_only_end(state) {
+            return false;
+        }
+    }
+    true
 }
 
 /// A row of the state, without steps.
@@ -124,7 +159,11 @@ impl OnePass {
             lists: Lists::new(alloc, of_lists)?,
             stack: Vec::new(alloc),
             most_rows,
-            limit,
+            setup: Setup {
+                limit,
+                looks: !has_only_ends(nfa),
+            },
+            matches_early: false,
             misses: 0,
         })
     }
@@ -152,7 +191,7 @@ impl OnePass {
         requires state { sid < length nfa.now.states }
         ensures own { IsFor nfa.now self.new }
         ensures keeps { KeepsRows self.old.rows.items self.new.rows.items }
-        ensures limit { self.new.limit ≡ self.old.limit }
+        ensures setup { self.new.setup ≡ self.old.setup }
         ensures lists { self.new.lists ≡ self.old.lists }
         ensures row { IfSome result (λ row. state_at self.new.rows.items row ≡ Some sid) }
     {
@@ -169,7 +208,7 @@ impl OnePass {
         requires state { sid < length nfa.now.states }
         ensures own { IsFor nfa.now self.new }
         ensures keeps { KeepsRows self.old.rows.items self.new.rows.items }
-        ensures limit { self.new.limit ≡ self.old.limit }
+        ensures setup { self.new.setup ≡ self.old.setup }
         ensures lists { self.new.lists ≡ self.old.lists }
     {
         let number = self.rows.len();
@@ -187,7 +226,7 @@ impl OnePass {
         requires state { sid < length nfa.now.states }
         ensures own { IsFor nfa.now self.new }
         ensures keeps { KeepsRows self.old.rows.items self.new.rows.items }
-        ensures limit { self.new.limit ≡ self.old.limit }
+        ensures setup { self.new.setup ≡ self.old.setup }
         ensures lists { self.new.lists ≡ self.old.lists }
     {
         push(&mut self.rows, fresh_row(sid));
@@ -197,7 +236,7 @@ impl OnePass {
     fn note(&mut self, sid: StateID, number: u32)
         ensures rows { self.new.rows ≡ self.old.rows }
         ensures lists { self.new.lists ≡ self.old.lists }
-        ensures limit { self.new.limit ≡ self.old.limit }
+        ensures setup { self.new.setup ≡ self.old.setup }
         ensures most { self.new.most_rows ≡ self.old.most_rows }
     {
         let index = sid.as_usize();
@@ -218,7 +257,7 @@ impl OnePass {
     pub(crate) fn known(&self, nfa: &NFA, row: u32, column: usize) -> Option<Cell>
         requires own { IsFor nfa.now self.now }
         ensures { IfSome result (λ cell. (s : ℕ) → state_at self.now.rows.items row ≡ Some s → cell.goal < 4294967294
-            → IsStep nfa.now self.now.rows.items self.now.lists.items.items s column cell) }
+            → IsStep nfa.now self.now.rows.items self.now.lists.items.items self.now.setup.looks s column cell) }
     {
         let kept = self.rows.get(row as usize)?;
         let cell = kept.cells.get(column)?;
@@ -232,9 +271,10 @@ impl OnePass {
         requires column { column < 257 }
         ensures own { IsFor nfa.now self.new }
         ensures keeps { KeepsRows self.old.rows.items self.new.rows.items }
-        ensures limit { self.new.limit ≡ self.old.limit }
+        ensures setup { self.new.setup ≡ self.old.setup }
         ensures step { (s : ℕ) → state_at self.old.rows.items row ≡ Some s
-            → IfSome result (IsStep nfa.now self.new.rows.items self.new.lists.items.items s column) }
+            → IfSome result
+            (IsStep nfa.now self.new.rows.items self.new.lists.items.items self.new.setup.looks s column) }
     {
         let cell = self.known(nfa, row, column)?;
         if cell.goal < UNSURE {
@@ -256,8 +296,9 @@ impl OnePass {
         requires column { column < 257 }
         ensures own { IsFor nfa.now self.new }
         ensures keeps { KeepsRows self.old.rows.items self.new.rows.items }
-        ensures limit { self.new.limit ≡ self.old.limit }
-        ensures step { IfSome result (IsStep nfa.now self.new.rows.items self.new.lists.items.items sid column) }
+        ensures setup { self.new.setup ≡ self.old.setup }
+        ensures step { IfSome result
+            (IsStep nfa.now self.new.rows.items self.new.lists.items.items self.new.setup.looks sid column) }
     {
         let Some(reached) = self.find_way(nfa, sid, column) else {
             let unsure = Cell {
@@ -279,21 +320,39 @@ impl OnePass {
         requires column { column < 257 }
         ensures own { IsFor nfa.now self.new }
         ensures rows { self.new.rows ≡ self.old.rows }
-        ensures limit { self.new.limit ≡ self.old.limit }
-        ensures reached { IfSome result (IsReached nfa.now self.new.lists.items.items sid (byte_of column)) }
+        ensures setup { self.new.setup ≡ self.old.setup }
+        ensures reached { IfSome result (IsReached nfa.now self.new.lists.items.items
+            (looks_over self.old.setup.looks (byte_of column)) sid (byte_of column)) }
     {
-        only_way(nfa, &mut self.lists, &mut self.stack, sid, byte_of(column))
+        let looks = column == END || self.setup.looks;
+        match only_way(
+            nfa,
+            &mut self.lists,
+            &mut self.stack,
+            sid,
+            byte_of(column),
+            looks,
+        ) {
+            Ok(reached) => Some(reached),
+            Err(NoWay::Unsure) => None,
+            Err(NoWay::Match) => {
+                self.matches_early = true;
+                None
+            }
+        }
     }
 
     /// The cell of a step from the state that leads there. Without room for a row there is none.
     fn cell_to(&mut self, nfa: &NFA, sid: StateID, column: usize, reached: WayEnd) -> Option<Cell>
         requires own { IsFor nfa.now self.old }
         requires column { column < 257 }
-        requires reached { IsReached nfa.now self.old.lists.items.items sid (byte_of column) reached }
+        requires reached { IsReached nfa.now self.old.lists.items.items
+            (looks_over self.old.setup.looks (byte_of column)) sid (byte_of column) reached }
         ensures own { IsFor nfa.now self.new }
         ensures keeps { KeepsRows self.old.rows.items self.new.rows.items }
-        ensures limit { self.new.limit ≡ self.old.limit }
-        ensures step { IfSome result (IsStep nfa.now self.new.rows.items self.new.lists.items.items sid column) }
+        ensures setup { self.new.setup ≡ self.old.setup }
+        ensures step { IfSome result
+            (IsStep nfa.now self.new.rows.items self.new.lists.items.items self.new.setup.looks sid column) }
     {
         if column == END {
             return Some(Cell {
@@ -318,10 +377,10 @@ impl OnePass {
         requires here { state_at self.old.rows.items row ≡ Some sid }
         requires column { column < 257 }
         requires step { cell.goal < 4294967294
-            → IsStep nfa.now self.old.rows.items self.old.lists.items.items sid column cell }
+            → IsStep nfa.now self.old.rows.items self.old.lists.items.items self.old.setup.looks sid column cell }
         ensures own { IsFor nfa.now self.new }
         ensures keeps { KeepsRows self.old.rows.items self.new.rows.items }
-        ensures limit { self.new.limit ≡ self.old.limit }
+        ensures setup { self.new.setup ≡ self.old.setup }
         ensures lists { self.new.lists ≡ self.old.lists }
     {
         if row as usize >= self.rows.len() {

@@ -1,9 +1,11 @@
 //! The walk over a span.
-ghost use Rattle.std.specs.Prelude.{◌≡◌, ◌<◌, ◌≤◌, IfSome, None, Some, length, replicate, slice_get, true, ℕ};
-ghost use Rattle.regex_search_core.specs.Search.{search_of};
+ghost use Rattle.std.specs.Prelude.{◌≡◌, ◌<◌, ◌≤◌, IfSome, None, Some, false, length, replicate, slice_get, true, ℕ};
+ghost use Rattle.regex_search_core.specs.Search.{is_anchored, search_of};
+ghost use Rattle.regex_search_core.specs.declared.search.MatchKind.TheVariants.{LeftmostFirst};
+ghost use Rattle.nfa_paths.specs.Paths.{IsAnswer, is_utf8_empty};
 ghost use Rattle.regex_search_core.specs.PatternSets.{number_of};
 ghost use Rattle.nfa_paths.specs.Exploring.{Slots};
-ghost use Rattle.nfa_onepass.specs.Ways.{IsOnly, write_each};
+ghost use Rattle.nfa_onepass.specs.Ways.{IsOnly, IsWhole, write_each};
 ghost use Rattle.nfa_onepass.specs.Lists.{HasEmptyList, list_at};
 ghost use Rattle.nfa_onepass.specs.Tables.{IsFor, IsWalking, Takes, limit_of, state_at};
 ghost use Rattle.nfa_onepass.specs.declared.table.Row.{Row};
@@ -57,6 +59,19 @@ fn cell_of(rows: &[Row], row: u32, byte: u8) -> Option<Cell>
     Some(*cell)
 }
 
+/// Whether the search is anchored, its span ends with the haystack, and a match may end anywhere.
+fn is_whole(nfa: &NFA, input: &Input<'_>) -> bool
+    ensures anchored { result ≡ true → is_anchored (search_of input.now).anchored ≡ true }
+    ensures order { result ≡ true → (search_of input.now).start ≤ (search_of input.now).end }
+    ensures end { let x = search_of input.now in result ≡ true → x.end ≡ length x.haystack }
+    ensures anywhere { result ≡ true → is_utf8_empty nfa.now ≡ false }
+{
+    input.get_anchored().is_anchored()
+        && !input.is_done()
+        && input.end() == input.haystack().len()
+        && !(nfa.has_empty() && nfa.is_utf8())
+}
+
 /// The pattern of this number.
 fn pattern_of(goal: u32) -> Option<PatternID>
     ensures { IfSome result (λ p. number_of p ≡ goal) }
@@ -87,16 +102,58 @@ impl OnePass {
         if input.is_done() {
             return None;
         }
+        self.refresh(nfa);
         let found = self.walk_span(nfa, input, slots);
         self.count(found.is_some());
         found
+    }
+
+    /// Writes the slots of the answer of a search that takes the leftmost first match and not `earliest`, and returns
+    /// its pattern, if sure steps lead from the start of the span to a match at its end and no match ends before it.
+    /// Otherwise, and also if nothing matches, it returns `None`.
+    ///
+    /// Only an anchored search has such an answer, of a span that ends with the haystack, by an NFA whose only
+    /// assertion, if any, is that of the end of the haystack. If the NFA can match the empty string, it must not be in
+    /// UTF-8 mode.
+    pub fn search_whole(
+        &mut self,
+        nfa: &NFA,
+        input: &Input<'_>,
+        slots: &mut [Option<NonMaxUsize>],
+    ) -> Option<PatternID>
+        requires own { IsFor nfa.now self.old }
+        ensures own { IsFor nfa.now self.new }
+        ensures limit { limit_of self.new ≡ limit_of self.old }
+        ensures answer { let x = search_of input.now in IfSome result (λ p.
+            IsAnswer nfa.now LeftmostFirst false x (Some (number_of p)) slots.new) }
+    {
+        if self.setup.looks || !is_whole(nfa, input) {
+            return None;
+        }
+        let found = self.walk_span(nfa, input, slots)?;
+        self.count(true);
+        Some(found)
+    }
+
+    /// Forgets all steps if a search came to a state that leads to a match where no assertion holds. From then on steps
+    /// may pass assertions.
+    fn refresh(&mut self, nfa: &NFA)
+        requires own { IsFor nfa.now self.old }
+        ensures own { IsFor nfa.now self.new }
+        ensures limit { limit_of self.new ≡ limit_of self.old }
+    {
+        if self.matches_early {
+            self.matches_early = false;
+            self.rows.clear();
+            self.setup.looks = true;
+        }
     }
 
     /// Counts a search.
     fn count(&mut self, found: bool)
         ensures rows { self.new.rows ≡ self.old.rows }
         ensures lists { self.new.lists ≡ self.old.lists }
-        ensures limit { self.new.limit ≡ self.old.limit }
+        ensures setup { self.new.setup ≡ self.old.setup }
         ensures most { self.new.most_rows ≡ self.old.most_rows }
     {
         self.misses = if found {
@@ -116,8 +173,10 @@ impl OnePass {
         requires own { IsFor nfa.now self.old }
         requires order { (search_of input.now).start ≤ (search_of input.now).end }
         ensures own { IsFor nfa.now self.new }
-        ensures limit { self.new.limit ≡ self.old.limit }
+        ensures setup { self.new.setup ≡ self.old.setup }
         ensures only { IfSome result (λ p. IsOnly nfa.now (search_of input.now) (number_of p) slots.new) }
+        ensures whole { let x = search_of input.now in self.old.setup.looks ≡ false → x.end ≡ length x.haystack
+            → IfSome result (λ p. IsWhole nfa.now x (number_of p) slots.new) }
     {
         let sid = start_state(nfa, input)?;
         let first = self.row_of(nfa, sid)?;
@@ -144,7 +203,7 @@ impl OnePass {
         requires walking { IsWalking nfa.now (search_of input.now) self.old first (search_of input.now).start
             slots.old }
         ensures own { IsFor nfa.now self.new }
-        ensures limit { self.new.limit ≡ self.old.limit }
+        ensures setup { self.new.setup ≡ self.old.setup }
         ensures walking { IfSome result (λ row.
             IsWalking nfa.now (search_of input.now) self.new row (search_of input.now).end slots.new) }
     {
@@ -250,7 +309,7 @@ impl OnePass {
         requires own { IsFor nfa.now self.old }
         requires at { at < usize.MAX }
         ensures own { IsFor nfa.now self.new }
-        ensures limit { self.new.limit ≡ self.old.limit }
+        ensures setup { self.new.setup ≡ self.old.setup }
         ensures takes { (s : ℕ) → state_at self.old.rows.items row ≡ Some s
             → IfSome result (Takes nfa.now self.new s byte at slots.old slots.new) }
     {

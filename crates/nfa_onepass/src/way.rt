@@ -1,6 +1,7 @@
 //! The only way from a state to one that reads a byte, or to a Match.
-ghost use Rattle.std.specs.Prelude.{◌≡◌, ◌<◌, ◌≤◌, ◌++◌, ◌∷◌, [], IfSome, length, true};
+ghost use Rattle.std.specs.Prelude.{◌≡◌, ◌<◌, ◌≤◌, ◌++◌, ◌∷◌, [], IfOk, IfSome, None, false, length, true};
 ghost use Rattle.thompson_nfa.specs.Automaton.{node_of};
+ghost use Rattle.thompson_nfa.specs.Flaws.{pattern_of};
 ghost use Rattle.nfa_onepass.specs.Ways.{free_states, goal_of, written};
 ghost use Rattle.nfa_onepass.specs.Lists.{HasEmptyList, Keeps, list_at};
 ghost use Rattle.nfa_onepass.specs.Tables.{GoesOn, IsReached, threads_at};
@@ -27,6 +28,15 @@ pub struct WayEnd {
     pub list: u32,
 }
 
+/// Why a search for the only way found none.
+#[derive(Clone, Copy)]
+pub enum NoWay {
+    /// There is none, or there are several, or too many states to look at.
+    Unsure,
+    /// A way leads to a `Match` where no assertion holds.
+    Match,
+}
+
 /// What the state leads to: with a byte the target on it, without one the pattern of a `Match`.
 fn goal(state: &State, byte: Option<u8>) -> Option<u32>
     ensures goal { result ≡ goal_of byte (node_of state.now) }
@@ -39,6 +49,13 @@ fn goal(state: &State, byte: Option<u8>) -> Option<u32>
             _ => None,
         },
     }
+}
+
+/// Whether the state is a `Match` that a way came to where no assertion holds.
+fn matches_plainly(state: &State, looks: bool) -> bool
+    ensures { result ≡ false → looks ≡ false → pattern_of (node_of state.now) ≡ None }
+{
+    !looks && goal(state, None).is_some()
 }
 
 /// The number of the list after the state, if the one before it has this number.
@@ -67,63 +84,69 @@ fn push_each(stack: &mut Vec<Thread>, states: &[StateID], list: u32) -> bool
     true
 }
 
-/// Pushes the states that the state leads to without a byte, with the list. Returns whether there was memory for them.
-fn push_free(stack: &mut Vec<Thread>, state: &State, list: u32) -> bool
+/// Pushes the states that the state leads to without a byte, with the list, if each assertion holds or none does.
+/// Returns whether there was memory for them.
+fn push_free(stack: &mut Vec<Thread>, state: &State, list: u32, looks: bool) -> bool
     ensures { result ≡ true
-        → stack.new.items ≡ stack.old.items ++ threads_at list (free_states (node_of state.now)) }
+        → stack.new.items ≡ stack.old.items ++ threads_at list (free_states looks (node_of state.now)) }
 {
     match state {
-        State::Look { next, .. } | State::Capture { next, .. } => push_each(stack, &[*next], list),
+        State::Look { next, .. } => !looks || push_each(stack, &[*next], list),
+        State::Capture { next, .. } => push_each(stack, &[*next], list),
         State::Union { alternates } => push_each(stack, alternates, list),
         State::BinaryUnion { alt1, alt2 } => push_each(stack, &[*alt1, *alt2], list),
         _ => true,
     }
 }
 
-/// Goes on from the thread to the states that its state leads to without a byte. Returns whether there was memory.
-fn go_on(nfa: &NFA, lists: &mut Lists, stack: &mut Vec<Thread>, thread: Thread) -> bool
+/// Goes on from the thread to the states that its state leads to without a byte, if each assertion holds or none does.
+/// Returns whether there was memory.
+fn go_on(nfa: &NFA, lists: &mut Lists, stack: &mut Vec<Thread>, thread: Thread, looks: bool) -> bool
     requires state { thread.sid < length nfa.now.states }
     requires list { thread.list < length lists.old.items.items }
     ensures keeps { Keeps lists.old.items.items lists.new.items.items }
     ensures most { lists.new.most ≡ lists.old.most }
     ensures on { result ≡ true
-        → GoesOn nfa.now lists.old.items.items lists.new.items.items stack.old.items stack.new.items thread }
+        → GoesOn nfa.now looks lists.old.items.items lists.new.items.items stack.old.items stack.new.items thread }
 {
     let state = nfa.state(thread.sid);
     match list_after(lists, state, thread.list) {
-        Some(list) => push_free(stack, state, list),
+        Some(list) => push_free(stack, state, list, looks),
         None => false,
     }
 }
 
-/// Returns where the only way from the state leads that ends at a goal: with the byte at a target, without one at the
-/// pattern of a `Match`. Returns `None` if there are several such ways, or none, or too many states to look at.
+/// Returns where the only way from the state leads that ends at a goal, if each assertion holds or none does: with the
+/// byte at a target, without one at the pattern of a `Match`. If none does, there is no such way from a state that also
+/// leads to a `Match`.
 pub fn only_way(
     nfa: &NFA,
     lists: &mut Lists,
     stack: &mut Vec<Thread>,
     sid: StateID,
     byte: Option<u8>,
-) -> Option<WayEnd>
+    looks: bool,
+) -> Result<WayEnd, NoWay>
     requires state { sid < length nfa.now.states }
     requires first { HasEmptyList lists.old.items.items }
     ensures keeps { Keeps lists.old.items.items lists.new.items.items }
     ensures most { lists.new.most ≡ lists.old.most }
-    ensures reached { IfSome result (IsReached nfa.now lists.new.items.items sid byte) }
+    ensures reached { IfOk result (IsReached nfa.now lists.new.items.items looks sid byte) }
 {
     stack.clear();
     if !push_each(stack, &[sid], NO_SLOTS) {
-        return None;
+        return Err(NoWay::Unsure);
     }
     let mut found: Option<WayEnd> = None;
     'turns: for _ in 0..MAX_TURNS {
         let Some(thread) = stack.pop() else {
-            return found;
+            return found.ok_or(NoWay::Unsure);
         };
-        match goal(nfa.state(thread.sid), byte) {
+        let state = nfa.state(thread.sid);
+        match goal(state, byte) {
             Some(goal) => {
                 if found.is_some() {
-                    return None;
+                    return Err(NoWay::Unsure);
                 }
                 found = Some(WayEnd {
                     goal,
@@ -131,11 +154,14 @@ pub fn only_way(
                 });
             }
             None => {
-                if !go_on(nfa, lists, stack, thread) {
-                    return None;
+                if matches_plainly(state, looks) {
+                    return Err(NoWay::Match);
+                }
+                if !go_on(nfa, lists, stack, thread, looks) {
+                    return Err(NoWay::Unsure);
                 }
             }
         }
     }
-    None
+    Err(NoWay::Unsure)
 }

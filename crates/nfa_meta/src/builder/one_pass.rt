@@ -5,8 +5,8 @@ ghost use Rattle.nfa_meta.specs.RegexState.{step_capacity};
 use crate::builder::Config;
 
 impl Config {
-    /// Sets whether the groups of a match that the lazy DFA found are taken by sure steps where they can be. With
-    /// `false`, no step is kept, and the [`Choice`](nfa_choice::choose::Choice) searches for groups.
+    /// Sets whether the groups of a match are taken by sure steps where they can be. With `false`, no step is kept, and
+    /// the [`Choice`](nfa_choice::choose::Choice) searches for groups.
     ///
     /// ```
     /// let config = Config::new().onepass(false);

@@ -1,4 +1,4 @@
-//! Searches for the slots of groups: by sure steps over the span of the match, as far as they lead, or by the choice.
+//! Searches for the slots of groups: by sure steps, as far as they lead, or by the choice.
 ghost use Rattle.std.specs.Prelude.{◌≡◌, ◌⊎◌, IfErr, IfNone, IfOk, IfSome, Some, option_map};
 ghost use Rattle.regex_search_core.specs.Found.{found_of};
 ghost use Rattle.nfa_search_base.specs.Lists.{IsInside};
@@ -34,6 +34,9 @@ impl Regex {
         if !self.one_pass.is_on() {
             return self.search_window(input, slots);
         }
+        if let Some(pattern) = self.write_whole(input, slots) {
+            return Some(pattern);
+        }
         match self.found_or_part(*input) {
             Ok(found) => match self.write_groups(input, found, slots) {
                 Some(pattern) => Some(pattern),
@@ -41,6 +44,27 @@ impl Regex {
             },
             Err(part) => self.search_part(input, part, slots),
         }
+    }
+
+    /// Writes the slots of the answer of an anchored search whose match ends with the haystack, if each step of it is
+    /// sure and no match ends before. The lazy DFA need not find the match then.
+    fn write_whole(
+        &mut self,
+        input: &Input<'_>,
+        slots: &mut [Option<NonMaxUsize>],
+    ) -> Option<PatternID>
+        ensures answer { let x = search_of input.now in IfSome result (λ p.
+            IsAnswer self.old.choice.nfa (kind_in self.old.choice) x.earliest x (Some (number_of p)) slots.new) }
+        ensures writes { IfSome result (λ _.
+            WritesSlots self.old.choice.nfa (search_of input.now) result slots.old slots.new) }
+        ensures same { self.new.choice ≡ self.old.choice }
+        ensures keeps { KeepsRegex self.old self.new }
+    {
+        if input.get_earliest() {
+            return None;
+        }
+        self.one_pass
+            .search_whole(self.choice.get_nfa(), input, slots)
     }
 
     /// Searches by the choice, in the window of the lazy DFA if there is one.

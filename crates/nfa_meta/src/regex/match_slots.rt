@@ -152,7 +152,7 @@ impl Regex {
         if self.skips_split_matches() {
             return None;
         }
-        self.find_anchored(input)
+        self.find_anchored(input, true)
     }
 
     /// Whether a search skips empty matches that split a codepoint.

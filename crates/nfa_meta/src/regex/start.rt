@@ -85,7 +85,7 @@ impl Regex {
     {
         let _ = &self.dfa;
         first_start_answers();
-        self.find_anchored(input.range(at..input.end()).anchored(Anchored::Yes))
+        self.find_anchored(input.range(at..input.end()).anchored(Anchored::Yes), false)
     }
 
     /// Whether the match is at the first start of its search, so that the next one may be, too. After a search that

@@ -122,8 +122,13 @@ impl Regex {
         }
     }
 
-    /// Returns the match of the search, if it is anchored and the lazy DFA answers it.
-    pub(super) fn find_anchored<'h>(&mut self, input: Input<'h>) -> Option<Option<Match>>
+    /// Returns the match of the search, if it is anchored and the lazy DFA answers it. Rows that earlier searches made
+    /// are asked first if that is wanted.
+    pub(super) fn find_anchored<'h>(
+        &mut self,
+        input: Input<'h>,
+        known: bool,
+    ) -> Option<Option<Match>>
         ensures answer { let x = search_of input.entry in IfSome result (λ found.
             IsFindAnswer self.old.choice.nfa (kind_in self.old.choice) x.earliest x (option_map found_of found)) }
         ensures pattern { IfSome result (λ found.
@@ -141,7 +146,7 @@ impl Regex {
         anchored_matches_start_the_span();
         half_matches_are_ends();
         no_match_is_missed();
-        match self.half_by_dfa(input) {
+        match self.half_by_dfa(input, known) {
             Ok(None) => Some(None),
             Ok(Some(half)) => {
                 let span = Span {
@@ -154,18 +159,34 @@ impl Regex {
         }
     }
 
-    /// Returns the half match of the search by the lazy DFA. Over known cells nothing is written for it.
+    /// Returns the half match of the search by the lazy DFA, which asks known rows first if that is wanted.
     #[inline(always)]
-    fn half_by_dfa<'h>(&mut self, input: Input<'h>) -> Result<Option<HalfMatch>, StopError>
+    fn half_by_dfa<'h>(
+        &mut self,
+        input: Input<'h>,
+        known: bool,
+    ) -> Result<Option<HalfMatch>, StopError>
         ensures answer { let x = search_of input.entry in IfOk result (λ half. IsHalfAnswer self.old.choice.nfa
             (kind_in self.old.choice) x.earliest x (option_map half_found_of half)) }
         ensures same { self.new.choice ≡ self.old.choice }
         ensures keeps { KeepsRegex self.old self.new }
     {
-        if let Some(half) = self.dfa.known_answer(&self.cache, &input) {
-            return Ok(half);
+        if known {
+            if let Some(half) = self.half_by_known_rows(&input) {
+                return Ok(half);
+            }
         }
         self.dfa.try_find_half(&mut self.cache, input)
+    }
+
+    /// Returns the half match of the search, if known rows of the lazy DFA lead to it. Nothing is written for it.
+    // A call of its own, so that a search which does not ask them costs no large frame.
+    #[inline(never)]
+    fn half_by_known_rows(&self, input: &Input<'_>) -> Option<Option<HalfMatch>>
+        ensures { let x = search_of input.now in IfSome result (λ half. IsHalfAnswer self.now.choice.nfa
+            (kind_in self.now.choice) x.earliest x (option_map half_found_of half)) }
+    {
+        self.dfa.known_answer(&self.cache, input)
     }
 
     /// Returns the match that [`Regex::find`] returns. It copies no input for a match at the first start.
@@ -201,7 +222,7 @@ impl Regex {
         ensures holds { HoldsNoMore (2 * length self.old.choice.nfa.groups) self.old.choice.back self.new.choice.back }
         ensures keeps { KeepsRegex self.old self.new }
     {
-        if let Some(found) = self.find_anchored(*input) {
+        if let Some(found) = self.find_anchored(*input, true) {
             return found;
         }
         let found = self.find_by_window(*input);

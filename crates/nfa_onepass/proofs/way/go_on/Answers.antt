@@ -20,5 +20,5 @@ returns-in-Some-clause-on c pushed =
       after = c.in-Some.ensures.after.1
           ∙ ap (λ (n : Node). list_at c.args.lists.now.items.items c.args.thread.list ++ written n) is;
       are = c.push_free.ensures pushed
-          ∙ ap (λ (n : Node). c.args.stack.now.items ++ threads_at list (free_states n)) is;
+          ∙ ap (λ (n : Node). c.args.stack.now.items ++ threads_at list (free_states c.args.looks n)) is;
     }

@@ -1,13 +1,21 @@
 -- Each thread that is taken from the stack is the end of a way, or gives way to those that it leads to.
-use Rattle.nfa_paths.proofs.Common.{◌≡◌, ◌∙◌, ◌++◌, ◌-◌, List, [], ℕ, false, is_some, ap, sym, subst, arith, take, length, Option, None, Some, option_to_list, LeadsBelow, Node, node_of, node_at, refl}
+use Rattle.nfa_paths.proofs.Common.{◌≡◌, ◌∙◌, ◌++◌, ◌-◌, List, [], ◌∷◌, IfOk, IfSome, Result, Ok, Err, ℕ, false, is_some, ap, sym, subst, arith, take, length, Option, None, Some, option_to_list, LeadsBelow, Node, node_of, node_at, pattern_of, refl}
 use Rattle.nfa_paths.proofs.StartLemmas.{node_at-get}
 use Rattle.nfa_onepass.specs.Ways.{goal_of}
+use Rattle.std.specs.Result.{result_ok}
+use Rattle.nfa_onepass.specs.Tables.{IsReached, threads_at}
+use Rattle.nfa_onepass.specs.declared.way.NoWay.{NoWay}
 use Rattle.nfa_onepass.specs.declared.way.WayEnd.{WayEnd}
 use Rattle.nfa_onepass.specs.declared.way.Thread.{Thread}
-use Rattle.nfa_onepass.proofs.ClosureLemmas.{IsUnderWay, IsUnderWay-ends, IsUnderWay-found, IsUnderWay-on, IsUnderWay-top}
-use Rattle.nfa_onepass.proofs.TableLemmas.{Keeps-trans}
+use Rattle.nfa_onepass.proofs.ClosureLemmas.{IsUnderWay, IsUnderWay-begin, IsUnderWay-ends, IsUnderWay-found, IsUnderWay-on, IsUnderWay-top}
+use Rattle.nfa_onepass.proofs.TableLemmas.{Keeps-refl, Keeps-trans}
 use Rattle.nfa_onepass.proofs.way.only_way.Goals as goal
-use Rattle.nfa_onepass.proofs.way.only_way.Goals.{in-Some-goal+else-is_some, in-None+else-not-go_on}
+use Rattle.nfa_onepass.proofs.way.only_way.Goals.{in-Some-goal+else-is_some, in-None+else-matches_plainly+else-not-go_on}
+
+-- what holds of a way that was found holds of the result
+ok-of : (P : WayEnd → Type 0) (r : Result WayEnd NoWay) → IfSome (result_ok r) P → IfOk r P
+ok-of P (Ok end) h = h
+ok-of P (Err why) h = tt
 
 pub returns-in_default-clause-reached : goal.returns-in_default-clause-reached
 returns-in_default-clause-reached c =
@@ -19,22 +27,37 @@ returns-in_default-clause-reached c =
     let none : waiting.items ≡ [] =
     c.pop.ensures.items ∙ ap (λ (o : Option Thread). c.pop.new.self.items ++ option_to_list o) c.in_default.is
     ∙ ap (λ (ts : List Thread). ts ++ []) empty in
-    IsUnderWay-ends c.args.nfa.now c.args.sid c.args.byte c.turns.lists.items.items c.turns.found
-    (rw none at c.turns.invariant.under_way)
+    ok-of (IsReached c.args.nfa.now c.turns.lists.items.items c.args.looks c.args.sid c.args.byte) c.ok_or.result
+    (rw c.ok_or.ensures.ok_part at (IsUnderWay-ends c.args.nfa.now c.args.looks c.args.sid c.args.byte
+    c.turns.lists.items.items c.turns.found (rw none at c.turns.invariant.under_way)))
 
-pub state-requires : goal.state-requires
-state-requires c =
-    (IsUnderWay-top c.args.nfa.now c.args.sid c.args.byte c.turns.lists.items.items c.pop.new.self.items
+pub turns-init : goal.turns-init
+turns-init c =
+    let lists = c.args.lists.now.items.items in
+    let stack : c.push_each.new.stack.items ≡ threads_at 0 (c.args.sid ∷ []) =
+    c.if-not-push_each.ensures refl
+    ∙ ap (λ (ts : List Thread). ts ++ threads_at 0 (c.args.sid ∷ [])) c.clear.ensures.items in
+    record {
+      keeps = Keeps-refl lists;
+      most = refl;
+      under_way = subst (λ (ts : List Thread). IsUnderWay c.args.nfa.now c.args.looks c.args.sid c.args.byte lists ts None)
+          (sym stack) (IsUnderWay-begin c.args.nfa.now c.args.looks c.args.sid c.args.byte lists c.requires.first
+          c.requires.state);
+    }
+
+pub state-state-requires : goal.state-state-requires
+state-state-requires c =
+    (IsUnderWay-top c.args.nfa.now c.args.looks c.args.sid c.args.byte c.turns.lists.items.items c.pop.new.self.items
     c.turns.stack.items c.turns.found c.in-Some.thread c.in-Some.ensures.items c.turns.invariant.under_way).0
 
 pub go_on-requires-clause-state : goal.go_on-requires-clause-state
 go_on-requires-clause-state c =
-    (IsUnderWay-top c.args.nfa.now c.args.sid c.args.byte c.turns.lists.items.items c.pop.new.self.items
+    (IsUnderWay-top c.args.nfa.now c.args.looks c.args.sid c.args.byte c.turns.lists.items.items c.pop.new.self.items
     c.turns.stack.items c.turns.found c.in-Some.thread c.in-Some.ensures.items c.turns.invariant.under_way).0
 
 pub go_on-requires-clause-list : goal.go_on-requires-clause-list
 go_on-requires-clause-list c =
-    (IsUnderWay-top c.args.nfa.now c.args.sid c.args.byte c.turns.lists.items.items c.pop.new.self.items
+    (IsUnderWay-top c.args.nfa.now c.args.looks c.args.sid c.args.byte c.turns.lists.items.items c.pop.new.self.items
     c.turns.stack.items c.turns.found c.in-Some.thread c.in-Some.ensures.items c.turns.invariant.under_way).1
 
 -- nothing is there
@@ -46,8 +69,8 @@ pub turns-preserved : goal.turns-preserved
 turns-preserved c =
     let nfa = c.args.nfa.now in
     let t = c.in-Some.thread in
-    let node = node_of c.state.result.now in
-    let at : node_at nfa t.sid ≡ node = node_at-get nfa t.sid node c.state.ensures.node in
+    let node = node_of c.state-state.result.now in
+    let at : node_at nfa t.sid ≡ node = node_at-get nfa t.sid node c.state-state.ensures.node in
     let goal_is : goal_of c.args.byte (node_at nfa t.sid) ≡ c.goal.result =
     ap (λ (n : Node). goal_of c.args.byte n) at ∙ sym c.goal.ensures.goal in
     let lists = c.turns.lists.items.items in
@@ -59,21 +82,21 @@ turns-preserved c =
           rw (w.lists-is, w.stack-is, w.found-is) (record {
             keeps = c.turns.invariant.keeps;
             most = c.turns.invariant.most;
-            under_way = IsUnderWay-found nfa c.args.sid c.args.byte lists rest stack t w.in-Some-goal.goal
+            under_way = IsUnderWay-found nfa c.args.looks c.args.sid c.args.byte lists rest stack t w.in-Some-goal.goal
                 c.in-Some.ensures.items
-                (subst (λ (f : Option WayEnd). IsUnderWay nfa c.args.sid c.args.byte lists stack f) none
+                (subst (λ (f : Option WayEnd). IsUnderWay nfa c.args.looks c.args.sid c.args.byte lists stack f) none
                 c.turns.invariant.under_way)
                 (goal_is ∙ w.in-Some-goal.is) w.in-Some-goal.ensures.small;
           })
-      | in-None+else-not-go_on w ↦
+      | in-None+else-matches_plainly+else-not-go_on w ↦
           rw (w.lists-is, w.stack-is, w.found-is) (record {
             keeps = Keeps-trans c.args.lists.now.items.items lists w.go_on.new.lists.items.items c.turns.invariant.keeps
                 w.go_on.ensures.keeps;
             most = w.go_on.ensures.most ∙ c.turns.invariant.most;
-            under_way = IsUnderWay-on nfa c.args.sid c.args.byte lists w.go_on.new.lists.items.items rest stack
+            under_way = IsUnderWay-on nfa c.args.looks c.args.sid c.args.byte lists w.go_on.new.lists.items.items rest stack
                 w.go_on.new.stack.items c.turns.found t c.in-Some.ensures.items c.turns.invariant.under_way
-                (goal_is ∙ w.in-None.is)
-                (subst (LeadsBelow (length nfa.states)) (sym at) c.state.ensures.leads) w.go_on.ensures.keeps
+                (goal_is ∙ w.in-None.is) (λ plain. ap pattern_of at ∙ w.matches_plainly.ensures w.if-matches_plainly.false plain)
+                (subst (LeadsBelow (length nfa.states)) (sym at) c.state-state.ensures.leads) w.go_on.ensures.keeps
                 (w.if-not-go_on.ensures.on refl);
           })
     ]

@@ -8,5 +8,5 @@ abbrev pub invariant-turns : goal.invariant-turns
 invariant-turns l = record {
   keeps : Keeps l.fn.lists.items.items l.lists.items.items;
   most : l.lists.most ≡ l.fn.lists.most;
-  under_way : IsUnderWay l.nfa l.fn.sid l.byte l.lists.items.items l.stack.items l.found;
+  under_way : IsUnderWay l.nfa l.looks l.fn.sid l.byte l.lists.items.items l.stack.items l.found;
 }

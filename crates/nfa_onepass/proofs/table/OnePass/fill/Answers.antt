@@ -1,6 +1,8 @@
 -- The cell that is kept changes no list, so its step stays sure.
 use Rattle.nfa_onepass.specs.declared.lists.Lists.{Lists}
+use Rattle.nfa_onepass.specs.declared.table.Setup.{Setup}
 use Rattle.nfa_onepass.specs.Lists.{Keeps}
+use Rattle.nfa_onepass.specs.Tables.{IsStep}
 use Rattle.nfa_paths.proofs.Common.{subst, sym}
 use Rattle.nfa_onepass.proofs.TableLemmas.{IsStep-keeps, Keeps-refl}
 use Rattle.nfa_onepass.proofs.table.OnePass.fill.Goals as goal
@@ -8,7 +10,10 @@ use Rattle.nfa_onepass.proofs.table.OnePass.fill.Goals as goal
 pub returns-clause-step : goal.returns-clause-step
 returns-clause-step c =
     let old = c.cell_to.new.self in
-    IsStep-keeps c.args.nfa.now old.rows.items c.keep-2.new.self.rows.items old.lists.items.items
-    c.keep-2.new.self.lists.items.items c.args.sid c.args.column c.in_ok-cell.cell c.keep-2.ensures.keeps
+    let new = c.keep-2.new.self in
+    subst (λ (s : Setup). IsStep c.args.nfa.now new.rows.items new.lists.items.items s.looks c.args.sid c.args.column
+    c.in_ok-cell.cell) (sym c.keep-2.ensures.setup)
+    (IsStep-keeps c.args.nfa.now old.rows.items new.rows.items old.lists.items.items new.lists.items.items
+    old.setup.looks c.args.sid c.args.column c.in_ok-cell.cell c.keep-2.ensures.keeps
     (subst (λ (l : Lists). Keeps old.lists.items.items l.items.items) (sym c.keep-2.ensures.lists)
-    (Keeps-refl old.lists.items.items)) c.in_ok-cell.ensures.step
+    (Keeps-refl old.lists.items.items)) c.in_ok-cell.ensures.step)

@@ -9,9 +9,9 @@ pub returns-clause-own : goal.returns-clause-own
 returns-clause-own c =
     elim c.push.ensures [
       | inl same ↦ IsFor-lists c.args.nfa.now c.args.self.now _ same (Keeps-refl c.args.self.now.lists.items.items)
-          (record { rows = refl; lists = refl; limit = refl }) c.requires.own
+          (record { rows = refl; lists = refl; setup = refl }) c.requires.own
       | inr added ↦ IsFor-push c.args.nfa.now c.args.self.now _ c.fresh_row.result c.args.sid added refl
-          (record { rows = refl; lists = refl; limit = refl }) c.requires.room c.requires.own
+          (record { rows = refl; lists = refl; setup = refl }) c.requires.room c.requires.own
           c.fresh_row.ensures c.requires.state
     ]
 

@@ -2,6 +2,7 @@
 use Rattle.nfa_paths.proofs.Common.{◌<◌, refl, subst, arith, ℕ, Option}
 use Rattle.nfa_onepass.specs.Ways.{IsSure}
 use Rattle.nfa_onepass.specs.Lists.{list_at}
+use Rattle.nfa_onepass.specs.Tables.{looks_over}
 use Rattle.nfa_onepass.proofs.TableLemmas.{byte_of-low}
 use Rattle.nfa_onepass.proofs.table.OnePass.step_over.Goals as goal
 
@@ -14,7 +15,8 @@ returns-clause-takes c s here =
       to = step.goal;
       written = slots;
       is = step.leads low;
-      sure = subst (λ (o : Option ℕ). IsSure c.args.nfa.now s o step.goal slots) (byte_of-low c.args.byte low)
-          step.sure;
+      sure = subst (λ (o : Option ℕ). IsSure c.args.nfa.now (looks_over c.cell.new.self.setup.looks o) s o step.goal
+          slots) (byte_of-low c.args.byte low) step.sure;
+      shut = λ plain. step.shut plain low;
       writes = c.if-not-write_list.ensures refl;
     }

@@ -15,10 +15,11 @@ loop-place-preserved c =
     let slots = c.step_over.new.slots in
     record {
       own = c.in_ok-row.ensures.own;
-      limit = c.in_ok-row.ensures.limit ∙ c.loop-place.invariant.limit;
+      setup = c.in_ok-row.ensures.setup ∙ c.loop-place.invariant.setup;
       high = c.pass-place-in-loop-place.ensures.high;
       walking = c.pass-place-in-loop-place.ensures.walking slots (IsWalking-takes c.args.nfa.now
           (search_of c.args.input.now) c.loop-place.self c.step_over.new.self c.loop-place.place.row
-          c.in_ok-byte.byte c.loop-place.place.at c.loop-place.slots slots c.in_ok-row.row w
+          c.in_ok-byte.byte c.loop-place.place.at c.loop-place.slots slots c.in_ok-row.row c.in_ok-row.ensures.own
+          c.in_ok-row.ensures.setup w
           (sym c.byte_at.ensures ∙ c.in_ok-byte.was) (c.in_ok-row.ensures.takes w.state w.here));
     }

@@ -6,7 +6,7 @@ use Rattle.nfa_onepass.proofs.table.OnePass.walk.Given as goal
 abbrev pub invariant-loop-place : goal.invariant-loop-place
 invariant-loop-place l = record {
   own : IsFor l.nfa l.self;
-  limit : l.self.limit ≡ l.fn.self.limit;
+  setup : l.self.setup ≡ l.fn.self.setup;
   high : l.place.at ≤ (search_of l.input).end;
   walking : IsWalking l.nfa (search_of l.input) l.self l.place.row l.place.at l.slots;
 }
