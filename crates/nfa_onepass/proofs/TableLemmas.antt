@@ -1,12 +1,11 @@
 -- A table that grows keeps its steps, and a walk that takes one goes on.
 use Rattle.std.specs.Global.{Vec}
-use Rattle.nfa_paths.proofs.Common.{◌≡◌, ◌∙◌, ℕ, zero, suc, ◌+◌, ◌*◌, ◌<◌, ◌≤◌, ◌⊎◌, inl, inr, List, [], ◌∷◌, ◌++◌, replicate, slice_get, slice_set, slice_index_or, get_or, get_or_from_slice_get, slice_get-get_or, none-some, refl, sym, ap, subst, arith, length, length-append, length-set, Bool, false, true, cases_Bool, slice_get_within, Option, None, Some, option_map, Automaton, Search, Slots, byte_at, start_state, length-replicate}
+use Rattle.nfa_paths.proofs.Common.{◌≡◌, ◌∙◌, ℕ, zero, suc, ◌+◌, ◌*◌, ◌<◌, ◌≤◌, ◌⊎◌, inl, inr, List, [], ◌∷◌, ◌++◌, replicate, slice_get, slice_set, slice_index_or, get_or, get_or_from_slice_get, slice_get-get_or, none-some, refl, sym, ap, subst, arith, length, length-append, length-set, Bool, false, cases_Bool, slice_get_within, Option, None, Some, option_map, Automaton, Search, Slots, byte_at, start_state, length-replicate}
 use Rattle.nfa_paths.proofs.MemberLemmas.{same_some}
 use Rattle.nfa_onepass.specs.Ways.{HasOnlyEnds, IsOnWay, IsOnly, IsSure, IsWhole, write_each}
 use Rattle.nfa_onepass.specs.Lists.{HasEmptyList, Keeps, list_at}
 use Rattle.nfa_onepass.specs.Tables.{IsFor, IsFresh, IsStep, IsWalking, KeepsRows, Takes, byte_of, limit_of, looks_over, memory_of, state_at}
 use Rattle.nfa_onepass.specs.declared.table.Cell.{Cell}
-use Rattle.nfa_onepass.specs.declared.lists.Lists.{Lists}
 use Rattle.nfa_onepass.specs.declared.table.OnePass.{OnePass}
 use Rattle.nfa_onepass.specs.declared.table.Row.{Row}
 use Rattle.nfa_onepass.specs.declared.table.Setup.{Setup}
@@ -369,17 +368,4 @@ IsFor-lists nfa t u rows keeps same h = record {
   few = omega (arith, h.few, same.rows);
   room = room-same t u same h.room;
   ends = ends-same nfa t u same h.ends;
-}
-
--- a table without rows is one of the NFA, whatever it was made for
-pub IsFor-none : (nfa : Automaton) (t u : OnePass) → u.rows.items ≡ [] → u.lists ≡ t.lists
-    → u.most_rows ≡ t.most_rows → u.setup.limit ≡ t.setup.limit → u.setup.looks ≡ true → IsFor nfa t → IsFor nfa u
-IsFor-none nfa t u rows lists most limit looks h = record {
-  states = λ row s e. elim (none-some s (ap (λ (xs : List Row). state_at xs row) (sym rows) ∙ e)) [ ];
-  steps = λ row k r c e f low. elim (none-some r (ap (λ (xs : List Row). slice_get xs row) (sym rows) ∙ e)) [ ];
-  first = subst (λ (l : Lists). HasEmptyList l.items.items) (sym lists) h.first;
-  fits = omega (arith, ap length rows);
-  few = omega (arith, h.few, most);
-  room = omega (arith, h.room, most, limit, ap (λ (l : Lists). l.most) lists);
-  ends = λ plain. cc;
 }

@@ -1,5 +1,4 @@
--- How a list of pairs that follows edges goes on from a state: by a way without a byte, and then over a byte, or to a
--- Match.
+-- How a list of pairs that follows edges goes on from a state: by a way without a byte, then over a byte or to a Match.
 use Rattle.nfa_paths.proofs.Common.{◌≡◌, ◌∙◌, ◌≤◌, ◌<◌, ℕ, ◌+◌, ◌⊎◌, inl, inr, Bool, false, true, cases_lt, look_holds, nat_tests, List, [], ◌∷◌, ◌++◌, map, length, replicate, refl, sym, ap, subst, arith, length-set, Option, None, Some, is_some, option_to_list, option_and_then, option_map, none-some, slice_set, cases_Bool, Search, Automaton, Node, Pair, In, Slots, apply, write, Holding, holding_at, epsilon_states, rests, node_at, capture, edges, byte_at, target_on, pattern_of, slot_of, start_state, slot_row, Look, Union, BinaryUnion, Capture, ByteRange, Sparse, Dense, Fail}
 use Rattle.thompson_nfa.specs.Automaton.Node.{Match}
 use Rattle.thompson_nfa.specs.declared.look.Look as looks
@@ -19,12 +18,14 @@ In-mapped f (x ∷ xs) y i = elim i [
 ]
 
 -- what a state leads to where its assertion holds, it leads to if each holds
-free-more : (holding : Holding) (node : Node) (s : ℕ) → In s (epsilon_states holding node) → In s (free_states true node)
+free-more : (holding : Holding) (node : Node) (s : ℕ) → In s (epsilon_states holding node)
+    → In s (free_states true node)
 free-more holding (Look look next) s i = grind arith
 free-more holding _ s i = i
 
 -- what a state leads to if no assertion holds, it leads to everywhere
-free-less : (holding : Holding) (node : Node) (s : ℕ) → In s (free_states false node) → In s (epsilon_states holding node)
+free-less : (holding : Holding) (node : Node) (s : ℕ) → In s (free_states false node)
+    → In s (epsilon_states holding node)
 free-less holding (Look look next) s i = absurd i
 free-less holding _ s i = i
 
@@ -359,7 +360,7 @@ module _ (nfa : Automaton) (x : Search) where
         ];
   }
 
-  -- With the sure step to a Match at the end of the span, the slots are those of each path that ends there.
+  -- With the step to a Match at the end of the span, the slots are those of each path that ends there.
   pub IsOnly-end : (count s u k : ℕ) (ws : List ℕ) (slots : Slots) → length slots ≡ count
       → start_state nfa x.anchored ≡ Some s → IsOnWay nfa x count s (u, x.end) slots → IsSure nfa true u None k ws
       → IsOnly nfa x k (write_each ws x.end slots)

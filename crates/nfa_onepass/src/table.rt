@@ -68,8 +68,8 @@ pub struct OnePass {
     /// The number of rows that there is room for.
     pub(crate) most_rows: usize,
     pub(crate) setup: Setup,
-    /// Whether a search came to a state that leads to a match where no assertion holds.
-    pub(crate) matches_early: bool,
+    /// Whether steps that pass no assertion may answer a search alone, as far as is known.
+    pub(crate) may_answer: bool,
     /// What searches that met a step that is not sure add, less what the others take off.
     pub(crate) misses: u32,
 }
@@ -105,7 +105,7 @@ fn is_only_end(state: &State) -> bool
 }
 
 /// Whether each assertion of the NFA is that of the end of the haystack.
-fn has_only_ends(nfa: &NFA) -> bool
+pub fn has_only_ends(nfa: &NFA) -> bool
     ensures { result ≡ true → HasOnlyEnds nfa.now }
 {
     for state in nfa.states() {
@@ -159,11 +159,8 @@ impl OnePass {
             lists: Lists::new(alloc, of_lists)?,
             stack: Vec::new(alloc),
             most_rows,
-            setup: Setup {
-                limit,
-                looks: !has_only_ends(nfa),
-            },
-            matches_early: false,
+            setup: Setup { limit, looks: true },
+            may_answer: true,
             misses: 0,
         })
     }
@@ -336,7 +333,7 @@ impl OnePass {
             Ok(reached) => Some(reached),
             Err(NoWay::Unsure) => None,
             Err(NoWay::Match) => {
-                self.matches_early = true;
+                self.may_answer = false;
                 None
             }
         }

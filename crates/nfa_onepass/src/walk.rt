@@ -11,7 +11,7 @@ ghost use Rattle.nfa_onepass.specs.Tables.{IsFor, IsWalking, Takes, limit_of, st
 ghost use Rattle.nfa_onepass.specs.declared.table.Row.{Row};
 
 use crate::lists::NO_SLOTS;
-use crate::table::{Cell, END, OnePass, Row, UNSURE};
+use crate::table::{Cell, END, OnePass, Row, UNSURE, has_only_ends};
 use nfa_scan_core::starts::start_state;
 use nfa_scan_core::transitions::byte_at;
 use regex_search_core::{Input, NonMaxUsize, PatternID};
@@ -127,7 +127,7 @@ impl OnePass {
         ensures answer { let x = search_of input.now in IfSome result (λ p.
             IsAnswer nfa.now LeftmostFirst false x (Some (number_of p)) slots.new) }
     {
-        if self.setup.looks || !is_whole(nfa, input) {
+        if !is_whole(nfa, input) || !self.answers_alone(nfa) {
             return None;
         }
         let found = self.walk_span(nfa, input, slots)?;
@@ -135,15 +135,35 @@ impl OnePass {
         Some(found)
     }
 
-    /// Forgets all steps if a search came to a state that leads to a match where no assertion holds. From then on steps
-    /// may pass assertions.
+    /// Returns whether steps pass no assertion, so that they may answer a search alone. If they may from now on, all that
+    /// are known are forgotten.
+    fn answers_alone(&mut self, nfa: &NFA) -> bool
+        requires own { IsFor nfa.now self.old }
+        ensures own { IsFor nfa.now self.new }
+        ensures limit { self.new.setup.limit ≡ self.old.setup.limit }
+        ensures looks { result ≡ true → self.new.setup.looks ≡ false }
+    {
+        if !self.may_answer {
+            return false;
+        }
+        if self.setup.looks {
+            self.may_answer = has_only_ends(nfa);
+            if !self.may_answer {
+                return false;
+            }
+            self.rows.clear();
+            self.setup.looks = false;
+        }
+        true
+    }
+
+    /// Forgets all steps if they pass no assertion and cannot answer a search alone. From then on they may pass one.
     fn refresh(&mut self, nfa: &NFA)
         requires own { IsFor nfa.now self.old }
         ensures own { IsFor nfa.now self.new }
         ensures limit { limit_of self.new ≡ limit_of self.old }
     {
-        if self.matches_early {
-            self.matches_early = false;
+        if !self.may_answer && !self.setup.looks {
             self.rows.clear();
             self.setup.looks = true;
         }

@@ -40,8 +40,9 @@ turns-init c =
     record {
       keeps = Keeps-refl lists;
       most = refl;
-      under_way = subst (λ (ts : List Thread). IsUnderWay c.args.nfa.now c.args.looks c.args.sid c.args.byte lists ts None)
-          (sym stack) (IsUnderWay-begin c.args.nfa.now c.args.looks c.args.sid c.args.byte lists c.requires.first
+      under_way = subst (λ (ts : List Thread).
+          IsUnderWay c.args.nfa.now c.args.looks c.args.sid c.args.byte lists ts None) (sym stack)
+          (IsUnderWay-begin c.args.nfa.now c.args.looks c.args.sid c.args.byte lists c.requires.first
           c.requires.state);
     }
 
@@ -93,9 +94,10 @@ turns-preserved c =
             keeps = Keeps-trans c.args.lists.now.items.items lists w.go_on.new.lists.items.items c.turns.invariant.keeps
                 w.go_on.ensures.keeps;
             most = w.go_on.ensures.most ∙ c.turns.invariant.most;
-            under_way = IsUnderWay-on nfa c.args.looks c.args.sid c.args.byte lists w.go_on.new.lists.items.items rest stack
-                w.go_on.new.stack.items c.turns.found t c.in-Some.ensures.items c.turns.invariant.under_way
-                (goal_is ∙ w.in-None.is) (λ plain. ap pattern_of at ∙ w.matches_plainly.ensures w.if-matches_plainly.false plain)
+            under_way = IsUnderWay-on nfa c.args.looks c.args.sid c.args.byte lists w.go_on.new.lists.items.items rest
+                stack w.go_on.new.stack.items c.turns.found t c.in-Some.ensures.items c.turns.invariant.under_way
+                (goal_is ∙ w.in-None.is)
+                (λ plain. ap pattern_of at ∙ w.matches_plainly.ensures w.if-matches_plainly.false plain)
                 (subst (LeadsBelow (length nfa.states)) (sym at) c.state-state.ensures.leads) w.go_on.ensures.keeps
                 (w.if-not-go_on.ensures.on refl);
           })

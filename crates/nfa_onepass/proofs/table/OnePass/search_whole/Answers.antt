@@ -8,4 +8,5 @@ returns-clause-answer c =
     let whole = c.if-not-is_whole.false in
     whole-answer c.args.nfa.now (search_of c.args.input.now) (number_of c.in_ok-found.found) c.walk_span.new.slots
     (c.is_whole.ensures.order whole) (c.is_whole.ensures.anchored whole)
-    (c.in_ok-found.ensures.whole c.if-self.false (c.is_whole.ensures.end whole)) (c.is_whole.ensures.anywhere whole)
+    (c.in_ok-found.ensures.whole (c.answers_alone.ensures.looks c.if-not-answers_alone.false)
+    (c.is_whole.ensures.end whole)) (c.is_whole.ensures.anywhere whole)
