@@ -64,9 +64,13 @@ fn pair_of<'p>(
 // A search of the text, or of a part of it, as likely as not with other settings.
 fn search_of<'h>(chance: &mut Chance, text: &'h [u8]) -> Input<'h> {
     let mut input = Input::new(text);
-    if chance.below(2) == 0 {
-        let end = chance.below(text.len() + 1);
-        input = input.range(chance.below(end + 1)..end);
+    match chance.below(4) {
+        0 | 1 => {
+            let end = chance.below(text.len() + 1);
+            input = input.range(chance.below(end + 1)..end);
+        }
+        2 => input = input.range(chance.below(text.len() + 1)..text.len()),
+        _ => {}
     }
     match chance.below(6) {
         0 => input.anchored(Anchored::Yes),

@@ -83,6 +83,9 @@ const REPETITIONS: &[&str] = &[
     "*", "+", "?", "*?", "+?", "??", "{2}", "{1,3}", "{0,2}?", "{2,}",
 ];
 
+/// What a pattern may end with, so that no match ends before the text.
+const ENDS: &[&str] = &["$", "\\z", "(?s:.)*$", " (\\S*)\\z"];
+
 /// What texts are made of.
 const PIECES: &[&[u8]] = &[
     b"a",
@@ -113,7 +116,13 @@ pub fn patterns_of(alloc: Global, chance: &mut Chance) -> Result<Vec<String>, Al
     let mut patterns = Vec::new(alloc);
     for _ in 0..=chance.pick(&[0, 0, 0, 1, 2]) {
         let mut pattern = String::new(alloc);
+        let is_bound = chance.below(4) == 0;
+        pattern.push_str(if is_bound { "(?:" } else { "" })?;
         write_alternation(chance, 3, &mut pattern)?;
+        if is_bound {
+            pattern.push_str(")")?;
+            pattern.push_str(chance.pick(ENDS))?;
+        }
         patterns.push(pattern)?;
     }
     Ok(patterns)
