@@ -350,7 +350,7 @@ impl Regex {
     /// The engines run as for [`Regex::find`], so the groups cost what the window does. If the lazy DFA finds the
     /// match, and at each byte of it only one way through the NFA goes on, the groups are those of this way, and the
     /// [`Choice`] does not search. The lazy DFA need not search either for an anchored match that has to end with the
-    /// haystack, as that of `(.*)\z` has to.
+    /// haystack, as that of `(\w+)=(\S*)\z` has to.
     ///
     /// ```
     /// // regex of [r"\pL+", r"\d+"]

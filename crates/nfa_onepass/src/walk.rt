@@ -135,8 +135,8 @@ impl OnePass {
         Some(found)
     }
 
-    /// Returns whether steps pass no assertion, so that they may answer a search alone. If they may from now on, all that
-    /// are known are forgotten.
+    /// Returns whether steps pass no assertion, so that they may answer a search alone. If they may from now on, all
+    /// that are known are forgotten.
     fn answers_alone(&mut self, nfa: &NFA) -> bool
         requires own { IsFor nfa.now self.old }
         ensures own { IsFor nfa.now self.new }
