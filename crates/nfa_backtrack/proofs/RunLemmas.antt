@@ -1,17 +1,17 @@
 -- The calls of an iterator over a backtracker's matches give the items of its search.
 use Rattle.nfa_paths.proofs.Common.{cases_lt, ◌+◌, ◌*◌, length, length-append, IfErr, ◌≡◌, arith, false, Some, Result, Ok, Err, refl, ap, List, [], ◌∷◌, ◌++◌, map, inl, inr, Found, found_of, Search, Match, span_len, LeftmostFirst}
-use Rattle.nfa_search_base.specs.Common.{IsStep, AnswersMatch, IsInside, steps_iter_state, IterState, Answer, fresh, span_of, OksAll}
+use Rattle.nfa_search_base.specs.Common.{IsStep, AnswersMatch, IsInside, steps_iter_state, ItemsGiven, IterState, Answer, fresh, span_of, OksGiven}
 use Rattle.nfa_search_base.specs.declared.error.SearchError.{SearchError}
 use Rattle.nfa_search_base.specs.declared.error.SearchError.TheVariants.{HaystackTooLong, Memory}
 use Rattle.nfa_search_base.proofs.DrainedLemmas.{all-last}
 use Rattle.nfa_search_base.proofs.ItemLemmas.{Last, Next, same-items, steps_in}
 use Rattle.nfa_search_base.proofs.ListLemmas.{match-lies, matches-disjoint, step-lies}
-use Rattle.nfa_search_base.proofs.OkItemLemmas.{GoesOnIn, OksGiven, ResultsOf, errors-memory, last-clean, next-clean, oked, oks-given, only-item, only-next, values-hold}
-use Rattle.nfa_search_base.proofs.RunLemmas.{Given, given-as, items-given}
+use Rattle.nfa_search_base.proofs.OkItemLemmas.{GoesOnIn, ResultsOf, errors-memory, last-clean, next-clean, oked, oks-given, only-item, only-next, values-hold}
+use Rattle.nfa_search_base.proofs.RunLemmas.{given-as, items-given}
 use Rattle.nfa_backtrack.specs.Backtrack.{Backtracker, IsTooLong, capacity_of}
 use Rattle.nfa_backtrack.specs.Iterators.{backtrack_matches, backtrack_matches_next}
 use Rattle.nfa_backtrack.specs.Finding.{AnswersByLength, IsTryFindAnswer}
-use Rattle.nfa_backtrack.specs.Runs.{OksAreAll, OksAreFirst, RunsInside, RunsDisjoint, RunsRefused, AreFirstItems, AreAllItems, GivesByLength}
+use Rattle.nfa_backtrack.specs.Runs.{OksAreAll, OksAreFirst, RunsInside, RunsDisjoint, AreFirstItems, AreAllItems, GivenByLength}
 use Rattle.nfa_backtrack.specs.declared.find_iter.TryFindMatches.{TryFindMatches}
 use Rattle.nfa_backtrack.proofs.FindLemmas.{back_answers, back_items, find_shell, finds-begin, memory-alone, refused-alone}
 
@@ -90,7 +90,7 @@ module _ (e : Backtracker) where
     Whole xs = AreAllItems e x xs
 
     -- what its calls give
-    pub finds-given : Given backtrack_matches_next First Whole s
+    pub finds-given : ItemsGiven backtrack_matches_next First Whole s
     finds-given = given-as backtrack_matches_next
         (items-given back_items (back_answers e x) (steps_in find_shell) s (finds-begin e x s engine iter_state going))
         (λ xs h. record { come = rw (same-items xs) at h }) (λ xs h. record { come = rw (same-items xs) at h })
@@ -105,23 +105,20 @@ module _ (e : Backtracker) where
     pub runs-inside : RunsInside x s
     runs-inside = λ p seen from.
         values-hold back_items results x (λ m. IsInside x (found_of m)) (step-inside x) p.items
-        (finds-given.run p seen from).0.come
+        (finds-given.runs p seen from).0.come
 
     pub runs-disjoint : RunsDisjoint x s
     runs-disjoint = λ p seen from ms is. matches-disjoint e.nfa LeftmostFirst false x (map found_of ms)
-        (oks-match.run p seen from ms is).0
+        (oks-match.runs p seen from ms is).0
 
-    pub runs-refused : RunsRefused backtrack_matches_next e x s
-    runs-refused = λ p seen from.
-        let k = finds-given.run p seen from in
-        record {
-          long = λ long whole. long-items x p.items long (k.1 whole).come;
-          memory = λ fits. errors-memory back_items results x (memory-alone e x fits) p.items k.0.come;
-        }
-
-    pub gives-by-length : GivesByLength e x s
-    gives-by-length = λ xs t i u ran st. item-by-length x xs i (finds-given.next xs t i u ran st).come
-
-    pub ends-by-length : OksAll backtrack_matches_next (λ ms. ¬ (IsTooLong e x)) s
-    ends-by-length = λ xs t u ms ran st is.
-        oks-fit x ms (rw is at (finds-given.all xs t u ran st).come)
+    pub given-by-length : GivenByLength e x s
+    given-by-length = record {
+      items = λ xs t i u ran st. item-by-length x xs i (finds-given.next xs t i u ran st).come;
+      end = λ xs t u ms ran st is. oks-fit x ms (rw is at (finds-given.all xs t u ran st).come);
+      refused = λ p seen from.
+          let k = finds-given.runs p seen from in
+          record {
+            long = λ long whole. long-items x p.items long (k.1 whole).come;
+            memory = λ fits. errors-memory back_items results x (memory-alone e x fits) p.items k.0.come;
+          };
+    }

@@ -1,6 +1,6 @@
 -- The items that the calls of an iterator over a backtracker's matches have given, wherever they stop.
 use Rattle.std.specs.Prelude.{◌≡◌, true, false, List, [], ◌∷◌, map, All, None, Some, Result, Ok, Err, IfOk, IfErr, Option}
-use Rattle.nfa_search_base.specs.Common.{EachRunFrom, found_of, Search, Match, span_len, LeftmostFirst, AreAllStoredMatches, AreFirstStoredMatches, AreFirstMatches, AreMatches, AreDisjoint, IsInside, fresh, span_of, Yields}
+use Rattle.nfa_search_base.specs.Common.{EachRunFrom, found_of, Search, Match, span_len, LeftmostFirst, AreAllStoredMatches, AreFirstStoredMatches, AreFirstMatches, AreMatches, AreDisjoint, IsInside, OksAll, fresh, span_of, Yields}
 use Rattle.nfa_search_base.specs.declared.error.SearchError.{SearchError}
 use Rattle.nfa_search_base.specs.declared.error.SearchError.TheVariants.{HaystackTooLong, Memory}
 use Rattle.nfa_backtrack.specs.Backtrack.{Backtracker, IsTooLong}
@@ -49,3 +49,11 @@ abbrev pub GivesByLength : Backtracker → Search → TryFindMatches → Type 0
 GivesByLength e x s = (xs : List (Result Match SearchError)) (t : TryFindMatches) (i : Result Match SearchError)
     (u : TryFindMatches) → Yields backtrack_matches_next s xs t → backtrack_matches_next t (Some i) u
     → AnswersByLength e x i
+
+-- What the calls of an iterator at s give depends on the length of the span.
+pub record GivenByLength (e : Backtracker) (x : Search) (s : TryFindMatches) : Type 0 where
+  -- a match is given, and the items end without an error, only if the span is not too long; an error is a refusal
+  pub items : GivesByLength e x s
+  pub end : OksAll backtrack_matches_next (λ ms. ¬ (IsTooLong e x)) s
+  -- in each run errors follow that rule
+  pub refused : RunsRefused backtrack_matches_next e x s

@@ -45,11 +45,11 @@ impl BoundedBacktracker {
     ghost use Rattle.nfa_search_base.specs.Lists.{AreMatches, AreDisjoint, IsInside};
     ghost use Rattle.nfa_backtrack.specs.Backtrack.{IsTooLong, refused_early};
     ghost use Rattle.nfa_backtrack.specs.Finding.{AnswersByLength, BacktrackerFindsOn, BacktrackerFindsToEnd};
-    ghost use Rattle.nfa_search_base.specs.Runs.{GivesFirst, GivesNext, OksAll, OksFirst, OksNext, OksRun, RunsGive};
+    ghost use Rattle.nfa_search_base.specs.Runs.{ItemsGiven, OksGiven};
     ghost use Rattle.nfa_backtrack.specs.Iterators.{backtrack_matches};
     ghost use Rattle.nfa_backtrack.specs.Iterators.{backtrack_matches_next, FindsBySearches};
     ghost use Rattle.nfa_backtrack.specs.Runs.{AreAllItems, AreFirstItems, OksAreAll, OksAreFirst, RunsDisjoint};
-    ghost use Rattle.nfa_backtrack.specs.Runs.{RunsInside, RunsRefused, GivesByLength};
+    ghost use Rattle.nfa_backtrack.specs.Runs.{RunsInside, GivenByLength};
 
     /// Returns an iterator over all matches that do not overlap, from left to right. Does not allocate.
     ///
@@ -73,23 +73,15 @@ impl BoundedBacktracker {
         ensures same_reference { (backtrack_matches result).cache.ghost_name ≡ cache.entry.ghost_name }
         ensures same_cache { (backtrack_matches result).cache.now ≡ cache.entry.now }
         // Each run of calls gives the first items, and all of them if it goes on to `None`.
-        ensures runs { RunsGive backtrack_matches_next (AreFirstItems self.now (search_of input.entry))
+        ensures given { ItemsGiven backtrack_matches_next (AreFirstItems self.now (search_of input.entry))
             (AreAllItems self.now (search_of input.entry)) result }
-        ensures matches { OksRun backtrack_matches_next (OksAreFirst self.now (search_of input.entry))
+        // If they are all `Ok`, they are matches of the input.
+        ensures matches { OksGiven backtrack_matches_next (OksAreFirst self.now (search_of input.entry))
             (OksAreAll self.now (search_of input.entry)) result }
         ensures inside { RunsInside (search_of input.entry) result }
         ensures disjoint { RunsDisjoint (search_of input.entry) result }
-        ensures refused { RunsRefused backtrack_matches_next self.now (search_of input.entry) result }
-        ensures first { GivesFirst backtrack_matches_next (AreFirstItems self.now (search_of input.entry)) result }
-        ensures first_matches { OksFirst backtrack_matches_next (OksAreFirst self.now (search_of input.entry))
-            result }
-        ensures next { GivesNext backtrack_matches_next (AreFirstItems self.now (search_of input.entry)) result }
-        ensures next_match { OksNext backtrack_matches_next (OksAreFirst self.now (search_of input.entry)) result }
-        ensures all_matches { OksAll backtrack_matches_next (OksAreAll self.now (search_of input.entry)) result }
-        // A match is given, and the items end without an error, only if the span is not too long. An error is a
-        // refusal.
-        ensures by_length { GivesByLength self.now (search_of input.entry) result }
-        ensures end { OksAll backtrack_matches_next (λ ms. ¬ (IsTooLong self.now (search_of input.entry))) result }
+        // They are refused by the length of the span.
+        ensures by_length { GivenByLength self.now (search_of input.entry) result }
         // The cache changes only by the searches of the steps.
         ensures searches { FindsBySearches self.now (search_of input.entry) result }
     {

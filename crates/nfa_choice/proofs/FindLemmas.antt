@@ -2,13 +2,13 @@
 -- and what they give and keep.
 use Rattle.std.specs.Iterator.{Yields}
 use Rattle.nfa_paths.proofs.Common.{◌≡◌, Bool, false, List, None, Ok, Option, Result, map, refl, rules, subst, Found, found_of, Search, Match}
-use Rattle.nfa_search_base.specs.Common.{SameButStart, WithCache, GivesStepsWith, StepsWith, TakesStepWith, steps_with_state, steps_iter_state, AnswersMatch, GivesKept, may_ask, GivesItem, can_step_infallibly, takes_steps, Answer, fresh, span_of, IsInfalliblyInside}
+use Rattle.nfa_search_base.specs.Common.{SameButStart, WithCache, GivesStepsWith, StepsWith, TakesStepWith, steps_with_state, steps_iter_state, AnswersMatch, GivesKept, MatchesGiven, may_ask, GivesItem, can_step_infallibly, takes_steps, Answer, fresh, span_of, IsInfalliblyInside}
 use Rattle.nfa_search_base.specs.declared.error.SearchError.{SearchError}
 use Rattle.nfa_search_base.specs.declared.iter.steps.Steps.{Steps}
 use Rattle.nfa_search_base.proofs.EngineLemmas.{KeptBy, SearchesAs, SearchesOf, answers_as, calls-kept, find-lies, searches-serve, step-may}
 use Rattle.nfa_search_base.proofs.ItemLemmas.{ItemsOf, items_as, ShellOf, steps_in}
 use Rattle.nfa_search_base.proofs.LeavingLemmas.{shell-leaves, shell-to_end}
-use Rattle.nfa_search_base.proofs.CapturesRunLemmas.{MatchesGiven, matches-given}
+use Rattle.nfa_search_base.proofs.CapturesRunLemmas.{matches-given}
 use Rattle.nfa_search_base.proofs.RunLemmas.{AnswersOf, Begins}
 use Rattle.nfa_pikevm.specs.Engines.{Pike, kind_of}
 use Rattle.nfa_pikevm.specs.Finding.{PikeAnswersMatch}

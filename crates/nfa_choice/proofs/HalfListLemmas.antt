@@ -3,12 +3,12 @@ use Rattle.nfa_paths.proofs.Common.{◌≡◌, ℕ, ◌≤◌, Bool, ap, arith, 
 use Rattle.nfa_paths.proofs.InsideLemmas.{half-within}
 use Rattle.nfa_paths.proofs.MemberLemmas.{same_some}
 use Rattle.nfa_engines.proofs.MatchLemmas.{half-unique}
-use Rattle.nfa_search_base.specs.Common.{matches_in, AreSpansDisjoint, Fails, answer_by, Answer, AnswerIsInside, IsInfalliblyInside, answer_span, fresh, half_span_of}
+use Rattle.nfa_search_base.specs.Common.{matches_in, AreSpansDisjoint, Fails, answer_by, Answer, AnswerIsInside, IsInfalliblyInside, ItemsGiven, answer_span, fresh, half_span_of}
 use Rattle.nfa_search_base.proofs.IterStateLemmas.{IsOrdered}
 use Rattle.nfa_search_base.proofs.ItemLemmas.{StepsBy, items_as, ShellOf}
 use Rattle.nfa_search_base.proofs.ListLemmas.{as_items, items-view, fresh-disjoint, matches_in-as_items, values-rest, values-unique}
 use Rattle.nfa_search_base.proofs.CapturesRunLemmas.{runs-are}
-use Rattle.nfa_search_base.proofs.RunLemmas.{AnswersOf, Begins, Given, given, items-given}
+use Rattle.nfa_search_base.proofs.RunLemmas.{AnswersOf, Begins, given, items-given}
 use Rattle.nfa_choice.specs.HalfLists.{AnswersHalf, AreFirstHalves, AreHalves, AreRising, IsHalfInside}
 use Rattle.nfa_choice.specs.HalfRuns.{AreFirst, AreAll, HalvesGiven}
 
@@ -85,7 +85,7 @@ module _ (nfa : Automaton) (kind : MatchKind) {S T : Type 0} {x : Search}
     (shell : ShellOf (StepsBy (items_as half_span_of half_found_of) answers.asks) (λ m. Ok m) T) (s : T)
     (begins : Begins answers.Good x (shell.inner s)) where
   -- its items are those of x
-  found : Given shell.calls (AreFirst nfa kind x) (AreAll nfa kind x) s
+  found : ItemsGiven shell.calls (AreFirst nfa kind x) (AreAll nfa kind x) s
   found =
       let k = items-given (items_as half_span_of half_found_of) answers shell s begins in
       given shell.calls (AreFirst nfa kind x) (AreAll nfa kind x) s
@@ -95,12 +95,12 @@ module _ (nfa : Automaton) (kind : MatchKind) {S T : Type 0} {x : Search}
   -- all that its calls give
   pub halves-given : HalvesGiven nfa kind x shell.calls s
   halves-given = record {
-    runs = found.run;
+    runs = found.runs;
     first = found.first;
     next = found.next;
     rise = λ p seen from.
-        let k = halves-rise nfa kind x.earliest x (map half_found_of p.items) (found.run p seen from).0 in
+        let k = halves-rise nfa kind x.earliest x (map half_found_of p.items) (found.runs p seen from).0 in
         (k, all-inside x None p.items k);
     are = runs-are shell.calls half_found_of (AreFirstHalves nfa kind x.earliest x) (AreHalves nfa kind x.earliest x)
-        (halves-rest nfa kind x.earliest x) (halves-unique nfa kind x.earliest x) s found.run;
+        (halves-rest nfa kind x.earliest x) (halves-unique nfa kind x.earliest x) s found.runs;
   }

@@ -1,9 +1,9 @@
 -- The spans that the iterators around the matches of a text give.
 use Rattle.nfa_paths.proofs.Common.{◌≡◌, ◌≤◌, ◌∙◌, ◌⊎◌, ◌++◌, ◌∷◌, [], ℕ, zero, suc, List, None, Some, Option, none-some, true, false, ap, append-nil, arith, inl, inr, length, map, refl, subst, sym, take, take_all, true≢false, All, All-cons, All-head, All-nil, All-tail, Automaton, Found, found_of, Match, MatchKind, Search, Span, whole}
 use Rattle.std.proofs.iter.runs.Made.{run_of_exit, runs_from_along}
-use Rattle.nfa_search_base.specs.Common.{Answer, AnswersMatch, AreDisjoint, AreMatches, Fails, ItemsLast, ItemsNext, IterState, KeepsStepsWith, MatchesRun, Yields, after, fresh, span_of}
+use Rattle.nfa_search_base.specs.Common.{Answer, AnswersMatch, AreAll, AreDisjoint, AreFirst, AreMatches, Fails, ItemsLast, ItemsNext, IterState, ItemsGiven, KeepsStepsWith, RunsGive, Yields, after, fresh, span_of}
 use Rattle.nfa_search_base.proofs.ListLemmas.{as_items, matches-disjoint, matches-exist, matches-rest}
-use Rattle.nfa_search_base.proofs.RunLemmas.{Given, calls-keep, given}
+use Rattle.nfa_search_base.proofs.RunLemmas.{calls-keep, given}
 use Rattle.nfa_search_base.proofs.StepLemmas.{chosen}
 use Rattle.nfa_choice.specs.ChoiceState.{ChoiceState, kind_in}
 use Rattle.nfa_meta.specs.Gaps.{AreAllOf, AreFirstOf, IsSpanIn, IsSplit, gap_spans}
@@ -19,7 +19,7 @@ use Rattle.nfa_meta.proofs.RegexLemmas.{regex_self, regex_then}
 
 -- the matches that an iterator over those of x gave until `None` are all
 found-all : {nfa : Automaton} {kind : MatchKind} {x : Search} {T : Type 0} (steps : T → Option Match → T → Type 0)
-    (s : T) (ms : List Match) (t : T) → Yields steps s ms t → MatchesRun nfa kind x steps s → (u : T) → steps t None u
+    (s : T) (ms : List Match) (t : T) → Yields steps s ms t → RunsGive steps (AreFirst nfa kind x) (AreAll nfa kind x) s → (u : T) → steps t None u
     → AreMatches nfa kind x.earliest x (map found_of ms)
 found-all {nfa} {kind} {x} steps s ms t ran runs u over =
     let run = run_of_exit steps s ms t ran u over in
@@ -138,7 +138,7 @@ module _ {r : ChoiceState} {text : List ℕ} {s : Split} (begins : BeginsSplit r
   pub ended-split : {xs : List Span} {t : Split} → Ended s xs t → IsSplit r text xs
   ended-split e = record {
     matches = map found_of e.matches;
-    all = found-all finds_next s.matches e.matches e.last e.ran begins.runs e.left e.over;
+    all = found-all finds_next s.matches e.matches e.last e.ran begins.given.runs e.left e.over;
     spans_are = e.spans ∙ rw (begins.start, begins.end) refl;
   }
 
@@ -146,7 +146,7 @@ module _ {r : ChoiceState} {text : List ℕ} {s : Split} (begins : BeginsSplit r
   passed-split {xs} {t} p =
       let all = matches-exist r.nfa (kind_in r) false (whole text) in
       let rest = matches-rest r.nfa (kind_in r) false (whole text) (map found_of p.matches) all.0
-      (begins.first p.matches t.matches p.ran) all.1 in
+      (begins.given.first p.matches t.matches p.ran) all.1 in
       record {
         all = gap_spans 0 (length text) all.0;
         is = record { matches = all.0; all = all.1; spans_are = refl };
@@ -159,7 +159,7 @@ module _ {r : ChoiceState} {text : List ℕ} {s : Split} (begins : BeginsSplit r
   whole-first {xs} is = record { all = xs; is = is; more = []; all_is = sym (append-nil xs) }
 
   -- so its calls give the spans around the matches
-  pub split-given : Given split_next (BeginsOne (IsSplit r text)) (IsSplit r text) s
+  pub split-given : ItemsGiven split_next (BeginsOne (IsSplit r text)) (IsSplit r text) s
   split-given = given split_next (BeginsOne (IsSplit r text)) (IsSplit r text) s first all
     where
       first : (xs : List Span) (t : Split) → Yields split_next s xs t → BeginsOne (IsSplit r text) xs

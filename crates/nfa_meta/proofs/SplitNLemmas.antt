@@ -1,9 +1,9 @@
 -- The spans that the iterator with a limit gives.
 use Rattle.nfa_paths.proofs.Common.{◌≡◌, ◌≤◌, ◌<◌, ◌+◌, ◌-◌, ◌∙◌, ◌⊎◌, ◌++◌, ◌∷◌, [], ℕ, zero, suc, List, None, Some, true, false, ap, append-nil, arith, cases_lt, inl, inr, length, length-map, length-take-le, map, refl, sym, take, take_all, All, Found, found_of, Span, whole}
 use Rattle.std.proofs.iter.runs.Made.{runs_from_along}
-use Rattle.nfa_search_base.specs.Common.{Yields}
+use Rattle.nfa_search_base.specs.Common.{ItemsGiven, Yields}
 use Rattle.nfa_search_base.proofs.ListLemmas.{matches-exist, matches-rest}
-use Rattle.nfa_search_base.proofs.RunLemmas.{Given, given}
+use Rattle.nfa_search_base.proofs.RunLemmas.{given}
 use Rattle.nfa_search_base.proofs.StepLemmas.{chosen}
 use Rattle.nfa_choice.specs.ChoiceState.{ChoiceState, kind_in}
 use Rattle.nfa_meta.specs.Gaps.{IsSplitUpTo, gap_spans}
@@ -116,7 +116,7 @@ module _ {r : ChoiceState} {text : List ℕ} {s : SplitN} (begins : BeginsSplit 
       let as_many = g.count in
       record {
         matches = map found_of p.matches;
-        first = begins.first p.matches g.last.matches p.ran;
+        first = begins.given.first p.matches g.last.matches p.ran;
         as_many = inl (omega (arith, length-map p.matches found_of, count, as_many));
         spans_are = g.all ∙ p.spans []
             ∙ rw (begins.start, begins.end) (ap (gap_spans 0 (length text)) (append-nil (map found_of p.matches)));
@@ -135,7 +135,7 @@ module _ {r : ChoiceState} {text : List ℕ} {s : SplitN} (begins : BeginsSplit 
       let ms = map found_of p.matches in
       let all = matches-exist r.nfa (kind_in r) false (whole text) in
       let rest = matches-rest r.nfa (kind_in r) false (whole text) ms all.0
-      (begins.first p.matches t.spans.matches p.ran) all.1 in
+      (begins.given.first p.matches t.spans.matches p.ran) all.1 in
       let count = p.count in
       let left = g.left in
       let some = g.some in
@@ -166,13 +166,13 @@ none-over (suc (suc m)) t u some step = none-ended t.spans u.spans step.0
 
 module _ {r : ChoiceState} {text : List ℕ} {s : SplitN} (begins : BeginsSplit r text s.spans) where
   none-given : s.left ≡ 0
-      → Given splitn_next (BeginsOne (IsSplitWithin r text 0)) (IsSplitWithin r text 0) s
+      → ItemsGiven splitn_next (BeginsOne (IsSplitWithin r text 0)) (IsSplitWithin r text 0) s
   none-given left = given splitn_next (BeginsOne (IsSplitWithin r text 0)) (IsSplitWithin r text 0) s
       (λ xs t ran. record { all = []; is = refl; more = []; all_is = rw (none-comes xs s t left ran) refl })
       (λ xs t u ran step. none-comes xs s t left ran)
 
   some-given : (n : ℕ) → s.left ≡ suc n
-      → Given splitn_next (BeginsOne (IsSplitUpTo r text (suc n))) (IsSplitUpTo r text (suc n)) s
+      → ItemsGiven splitn_next (BeginsOne (IsSplitUpTo r text (suc n))) (IsSplitUpTo r text (suc n)) s
   some-given n left =
       given splitn_next (BeginsOne (IsSplitUpTo r text (suc n))) (IsSplitUpTo r text (suc n)) s first all
     where
@@ -197,7 +197,7 @@ module _ {r : ChoiceState} {text : List ℕ} {s : SplitN} (begins : BeginsSplit 
 
   -- its calls give the first spans around the matches
   pub splitn-given : (limit : ℕ) → s.left ≡ limit
-      → Given splitn_next (BeginsOne (IsSplitWithin r text limit)) (IsSplitWithin r text limit) s
+      → ItemsGiven splitn_next (BeginsOne (IsSplitWithin r text limit)) (IsSplitWithin r text limit) s
   splitn-given zero left = none-given left
   splitn-given (suc n) left = some-given n left
 

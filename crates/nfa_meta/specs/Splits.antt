@@ -1,7 +1,7 @@
 -- The iterators over the spans around the matches of a text.
 use Rattle.std.specs.Prelude.{◌≡◌, ◌+◌, ℕ, zero, suc, All, List, length, MatchBool, None, Option, Some, false, true, min, if◌then◌else◌, [], ◌++◌}
 use Rattle.nfa_paths.specs.Common.{Count, at_most}
-use Rattle.nfa_search_base.specs.Common.{EachRunFrom, GivesKept, KeepsStepsWith, Match, MatchesFirst, MatchesRun, MutBor, Span, found_of, matches_left, steps_iter_state, whole}
+use Rattle.nfa_search_base.specs.Common.{EachRunFrom, GivesKept, KeepsStepsWith, Match, MatchesGiven, MutBor, Span, found_of, matches_left, steps_iter_state, whole}
 use Rattle.nfa_choice.specs.ChoiceState.{ChoiceState, kind_in}
 use Rattle.nfa_meta.specs.Gaps.{IsSpanIn, IsSplitUpTo}
 use Rattle.nfa_meta.specs.Matches.{finds_next, finds_regex, finds_steps}
@@ -70,8 +70,7 @@ SplitGivesIn text s = EachRunFrom split_next s (λ p. All (IsSpanIn (length text
 
 -- An iterator that begins with the text: its matches are those of the text.
 pub record BeginsSplit (r : ChoiceState) (text : List ℕ) (s : Split) : Type 0 where
-  pub first : MatchesFirst r.nfa (kind_in r) (whole text) finds_next s.matches
-  pub runs : MatchesRun r.nfa (kind_in r) (whole text) finds_next s.matches
+  pub given : MatchesGiven r.nfa (kind_in r) (whole text) finds_next s.matches
   pub start : s.start ≡ 0
   pub end : s.end ≡ length text
   pub going : s.done ≡ false

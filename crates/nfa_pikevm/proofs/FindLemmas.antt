@@ -1,13 +1,13 @@
 -- A PikeVM as the engine of an iteration over matches: when its iterator may search, and what it gives and keeps.
 use Rattle.nfa_paths.proofs.Common.{arith, ◌≡◌, Bool, false, Option, None, Some, Result, Ok, refl, sym, subst, inl, inr, Found, found_of, Search, Match, Automaton}
 use Rattle.nfa_paths.proofs.EarliestLemmas.{match-sure, sure-match}
-use Rattle.nfa_search_base.specs.Common.{Keeping, WithCache, TakesStepWith, steps_with_state, steps_iter_state, AnswersMatch, GivesItem, can_step_infallibly, takes_steps, Answer, IsInfalliblyInside, fresh, span_of, GivesStepsWith}
+use Rattle.nfa_search_base.specs.Common.{Keeping, WithCache, TakesStepWith, steps_with_state, steps_iter_state, AnswersMatch, GivesItem, can_step_infallibly, takes_steps, Answer, IsInfalliblyInside, MatchesGiven, fresh, span_of, GivesStepsWith}
 use Rattle.nfa_search_base.specs.declared.error.SearchError.{SearchError}
 use Rattle.nfa_search_base.specs.declared.iter.steps.Steps.{Steps}
 use Rattle.nfa_search_base.proofs.EngineLemmas.{EngineOf, FinderOf, KeptBy, SearchesAs, SearchesOf, answers_as, calls-kept, find-lies, finds_by, same-or-made, searches-serve, step-may}
 use Rattle.nfa_search_base.proofs.ItemLemmas.{items_as, ShellOf, steps_in}
 use Rattle.nfa_search_base.proofs.LeavingLemmas.{finds-leave, finds-to_end}
-use Rattle.nfa_search_base.proofs.CapturesRunLemmas.{MatchesGiven, matches-given}
+use Rattle.nfa_search_base.proofs.CapturesRunLemmas.{matches-given}
 use Rattle.nfa_search_base.proofs.RunLemmas.{AnswersOf, Begins}
 use Rattle.nfa_pikevm.specs.Engines.{Fits, Pike, PikeCache, SameCapacities, kind_of}
 use Rattle.nfa_pikevm.specs.Iterators.{AsksPike, FindsBySearches, MayFindByPike, fits_pike, pike_matches, pike_matches_next, pike_knowing}

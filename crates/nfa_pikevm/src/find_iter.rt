@@ -43,7 +43,7 @@ impl PikeVM {
     ghost use Rattle.nfa_pikevm.specs.Iterators.{FindsBySearches, pike_matches};
     ghost use Rattle.nfa_pikevm.specs.Iterators.{pike_matches_next};
     ghost use Rattle.nfa_pikevm.specs.Finding.{PikeFindsOn, PikeFindsToEnd};
-    ghost use Rattle.nfa_search_base.specs.Runs.{MatchesRun, MatchesAre, MatchesDisjoint, MatchesFirst, MatchesNext};
+    ghost use Rattle.nfa_search_base.specs.Runs.{MatchesGiven};
 
     /// Returns an iterator over all matches that do not overlap, from left to right. Does not allocate. Requires a
     /// cache that fits.
@@ -68,12 +68,7 @@ impl PikeVM {
         ensures same_reference { (pike_matches result).cache.ghost_name ≡ cache.entry.ghost_name }
         ensures same_cache { (pike_matches result).cache.now ≡ cache.entry.now }
         // Each run of calls gives the first matches of the input, and all of them if it goes on to `None`.
-        ensures runs { MatchesRun self.now.nfa (kind_of self.now) (search_of input.entry) pike_matches_next result }
-        ensures are { MatchesAre self.now.nfa (kind_of self.now) (search_of input.entry) pike_matches_next result }
-        ensures disjoint { MatchesDisjoint self.now.nfa (kind_of self.now) (search_of input.entry)
-            pike_matches_next result }
-        ensures first { MatchesFirst self.now.nfa (kind_of self.now) (search_of input.entry) pike_matches_next result }
-        ensures next { MatchesNext self.now.nfa (kind_of self.now) (search_of input.entry) pike_matches_next result }
+        ensures given { MatchesGiven self.now.nfa (kind_of self.now) (search_of input.entry) pike_matches_next result }
         // The cache changes only by the searches of the steps.
         ensures searches { FindsBySearches self.now (search_of input.entry) result }
         ensures keeps { GivesStepsWith pike_matches_next pike_matches SameCapacities result }

@@ -1,13 +1,13 @@
 -- The calls of an iterator by an engine give the matches, or the captures, of the engine's NFA.
 use Rattle.std.specs.Iterator.Runs.{EachRunFrom, YieldsRun, ItemsMapTo}
 use Rattle.nfa_paths.proofs.InsideLemmas.{slots-within}
-use Rattle.nfa_search_base.specs.Common.{SameButStart, CapturesGiven, Row, row_found, row_of, row_span, IsRow, AnswersRow, AreFirstCaptures, AreAllCaptures, HasGroups, match_in, CapturesInside, CapturesMemory, MatchesAreFirst, RowsAreFirst, MatchesAreAll, RowsAreAll, AreFirstMatches, AreMatches, IsStep, IsSlotInside, steps_iter_state, IterState, Answer, fresh, Yields, SearchError, Memory, Steps, AnswersMatch, AreDisjoint, IsInside, AreFirst, AreAll, MatchesRun, MatchesFirst, MatchesNext, MatchesAre, MatchesDisjoint, RunsGive, span_of}
+use Rattle.nfa_search_base.specs.Common.{SameButStart, CapturesGiven, Row, row_found, row_of, row_span, IsRow, AnswersRow, AreFirstCaptures, AreAllCaptures, HasGroups, match_in, CapturesInside, CapturesMemory, MatchesAreFirst, RowsAreFirst, MatchesAreAll, RowsAreAll, AreFirstMatches, AreMatches, IsStep, IsSlotInside, steps_iter_state, IterState, Answer, fresh, Yields, SearchError, Memory, Steps, AnswersMatch, AreDisjoint, IsInside, AreFirst, AreAll, ItemsGiven, MatchesGiven, RunsGive, span_of}
 use Rattle.nfa_search_base.proofs.CapturesLemmas.{row-lies, rows-first_matches, rows-matches}
 use Rattle.nfa_search_base.proofs.EngineLemmas.{SearchesAs, SearchesOf, answers_as, step-may, step-stays}
 use Rattle.nfa_search_base.proofs.ItemLemmas.{ItemsOf, StepsBy, copies_of, copy-of, ShellOf, same-items, items_as}
 use Rattle.nfa_search_base.proofs.ListLemmas.{matches-disjoint, step-asked, step-lies, items-view, matches-rest, matches-unique}
 use Rattle.nfa_search_base.proofs.OkItemLemmas.{GoesOnIn, OkedAs, ResultsOf, next-clean, last-clean, oks-given, values-hold, errors-memory}
-use Rattle.nfa_search_base.proofs.RunLemmas.{Begins, Given, given-as, items-given, AnswersOf}
+use Rattle.nfa_search_base.proofs.RunLemmas.{Begins, given-as, items-given, AnswersOf}
 use Rattle.nfa_search_base.proofs.SpanLemmas.{spans-inside}
 use Rattle.nfa_search_base.proofs.StepLemmas.{chosen}
 use Rattle.std.proofs.iter.runs.Sources.{lists}
@@ -125,7 +125,7 @@ module _ {E C S : Type 0} {searches : SearchesOf E C S Row} {captures : S → Ca
       abbrev Whole : List Caught → Type 0
       Whole xs = AreAllCaptures rows.tells x xs
 
-      caught : Given shell.calls First Whole s
+      caught : ItemsGiven shell.calls First Whole s
       caught = given-as shell.calls
           (items-given copies (answers_as searches e x rows.tells rows.given) shell s begins)
           (λ xs h. record { come = rw (same-items xs) at h }) (λ xs h. record { come = rw (same-items xs) at h })
@@ -136,7 +136,7 @@ module _ {E C S : Type 0} {searches : SearchesOf E C S Row} {captures : S → Ca
           → error ≡ Memory)
           → CapturesMemory shell.calls s
       captures-memory memory = λ p seen from.
-          errors-memory copies results_of x memory p.items (caught.run p seen from).0.come
+          errors-memory copies results_of x memory p.items (caught.runs p seen from).0.come
 
       -- captures that are all `Ok`, as rows and as matches
       as_rows : OkedAs First Whole (RowsAreFirst rows.nfa rows.kind rows.earliest x)
@@ -163,23 +163,23 @@ module _ {E C S : Type 0} {searches : SearchesOf E C S Row} {captures : S → Ca
           let row = oks-given as_rows caught in
           let match = oks-given as_matches caught in
           record {
-            runs = caught.run;
+            runs = caught.runs;
             first = caught.first;
             next = caught.next;
-            rows = row.run;
+            rows = row.runs;
             first_rows = row.first;
             next_row = row.next;
             all_rows = row.all;
-            matches = match.run;
+            matches = match.runs;
             first_matches = match.first;
             next_match = match.next;
             all_matches = match.all;
             groups = runs-hold shell.calls Holds (λ item. IfOk item (HasGroups rows.nfa)) call-groups s
                 (may, begins.good);
             inside = λ p seen from.
-                values-hold copies results_of x (CapturesInside x) step-inside p.items (caught.run p seen from).0.come;
+                values-hold copies results_of x (CapturesInside x) step-inside p.items (caught.runs p seen from).0.come;
             disjoint = λ p seen from cs are.
-                matches-disjoint rows.nfa rows.kind rows.earliest x (map match_in cs) (match.run p seen from cs are).0;
+                matches-disjoint rows.nfa rows.kind rows.earliest x (map match_in cs) (match.runs p seen from cs are).0;
           }
 
 -- nothing follows what is already whole
@@ -205,22 +205,13 @@ all-inside x last [] h = All-nil (λ m. IsInside x (found_of m))
 all-inside x last (m ∷ ms) h = All-cons (λ m. IsInside x (found_of m)) m ms h.0
     (all-inside x (Some (found_of m).end) ms h.2)
 
--- all that the calls of an iterator over the matches of x give
-pub record MatchesGiven (nfa : Automaton) (kind : MatchKind) (x : Search) {T : Type 0}
-    (steps : T → Option Match → T → Type 0) (s : T) : Type 0 where
-  pub runs : MatchesRun nfa kind x steps s
-  pub first : MatchesFirst nfa kind x steps s
-  pub next : MatchesNext nfa kind x steps s
-  pub disjoint : MatchesDisjoint nfa kind x steps s
-  pub are : MatchesAre nfa kind x steps s
-
 -- What answers the searches gives the matches of searches like x. A shell's calls are those of the iterator in it.
 module _ (nfa : Automaton) (kind : MatchKind) {S T : Type 0} {x : Search}
     (answers : AnswersOf S x (AnswersMatch nfa kind x.earliest))
     (shell : ShellOf (StepsBy (items_as span_of found_of) answers.asks) (λ m. Ok m) T) (s : T)
     (begins : Begins answers.Good x (shell.inner s)) where
   -- its items are those of x
-  found : Given shell.calls (AreFirst nfa kind x) (AreAll nfa kind x) s
+  found : ItemsGiven shell.calls (AreFirst nfa kind x) (AreAll nfa kind x) s
   found = given-as shell.calls (items-given (items_as span_of found_of) answers shell s begins)
       (λ xs h. record { come = rw (items-view found_of xs) at h })
       (λ xs h. record { come = rw (items-view found_of xs) at h })
@@ -228,12 +219,12 @@ module _ (nfa : Automaton) (kind : MatchKind) {S T : Type 0} {x : Search}
   -- all that its calls give
   pub matches-given : MatchesGiven nfa kind x shell.calls s
   matches-given = record {
-    runs = found.run;
+    runs = found.runs;
     first = found.first;
     next = found.next;
     disjoint = λ p seen from.
-        let k = matches-disjoint nfa kind x.earliest x (map found_of p.items) (found.run p seen from).0 in
+        let k = matches-disjoint nfa kind x.earliest x (map found_of p.items) (found.runs p seen from).0 in
         (k, all-inside x None p.items k);
     are = runs-are shell.calls found_of (AreFirstMatches nfa kind x.earliest x) (AreMatches nfa kind x.earliest x)
-        (matches-rest nfa kind x.earliest x) (matches-unique nfa kind x.earliest x) s found.run;
+        (matches-rest nfa kind x.earliest x) (matches-unique nfa kind x.earliest x) s found.runs;
   }

@@ -1,12 +1,12 @@
 -- What may be answered along the calls of an iterator that keeps its finder, the iterator gives, and so it gives the
 -- answers of a search.
 use Rattle.std.proofs.lemmas.Fn.{FoldsTo-push}
-use Rattle.nfa_search_base.specs.Common.{SameButStart, Item, item_by, matches_in, IsStep, ItemsLast, AreSpansDisjoint, LeadsOn, MayReply, ServesOnAlong, steps_iter_state, Answer, IterState, AnswerIsInside, after, answer_span, Yields, vec_items, Vec, SearchError, Steps, IsCallableOn, Finds, AnswersAlong, Fails, AreAllStoredMatches, AllFound, FirstFound, MayAnswer, stored_match_steps, infallible_match_steps, RunsApart, spans_in, GivesAll, AllSure, FirstSure, IsInfalliblyInside, Mut, Bor, Row, WithCaptures, CanFill, Fills, FillsAlong, row_of, row_span, filled_answer, AreAllStoredCaptures, FailsOrIsRefused, AllFilled, FirstFilled, MayAnswerRow, stored_captures_steps, takes_infallible_captures, MutBor}
+use Rattle.nfa_search_base.specs.Common.{SameButStart, Item, ItemsGiven, item_by, matches_in, IsStep, ItemsLast, AreSpansDisjoint, LeadsOn, MayReply, ServesOnAlong, steps_iter_state, Answer, IterState, AnswerIsInside, after, answer_span, Yields, vec_items, Vec, SearchError, Steps, IsCallableOn, Finds, AnswersAlong, Fails, AreAllStoredMatches, AllFound, FirstFound, MayAnswer, stored_match_steps, infallible_match_steps, RunsApart, spans_in, GivesAll, AllSure, FirstSure, IsInfalliblyInside, Mut, Bor, Row, WithCaptures, CanFill, Fills, FillsAlong, row_of, row_span, filled_answer, AreAllStoredCaptures, FailsOrIsRefused, AllFilled, FirstFilled, MayAnswerRow, stored_captures_steps, takes_infallible_captures, MutBor}
 use Rattle.nfa_search_base.proofs.AskingLemmas.{same_start-self, Along-weaker}
 use Rattle.nfa_search_base.proofs.IterStateLemmas.{IsOrdered}
 use Rattle.nfa_search_base.proofs.ItemLemmas.{EndsAt, ItemsOf, Last, Next, StepsBy, items_as, copies_of, plain_shell, same-items}
 use Rattle.nfa_search_base.proofs.ListLemmas.{IsOnward, spans-disjoint, step-as}
-use Rattle.nfa_search_base.proofs.RunLemmas.{AnswersOf, Given, given-at, given-as, given-inner}
+use Rattle.nfa_search_base.proofs.RunLemmas.{AnswersOf, given-at, given-as, given-inner}
 use Rattle.nfa_paths.proofs.InsideLemmas.{offsets}
 use Rattle.nfa_paths.proofs.Common.{IsCollectResult, ◌≡◌, false, List, [], ◌∷◌, ◌++◌, map, refl, sym, subst, arith, Option, None, Some, Result, Ok, Err, IfOk, Search, Span, ◌∙◌, ap, ◌≤◌, Input, ℕ, inl, inr, Found, Captured, match_of}
 
@@ -44,7 +44,7 @@ module _ {S X Y : Type 0} (asker : AskerOf S X Y) where
     May = MayReply accepts asks SameButStart s.backend w.at
 
     -- an iterator that has not ended gives
-    pub may-given : s.done ≡ false → Given (StepsBy items asks) (Next items May w) (Last items May w) s
+    pub may-given : s.done ≡ false → ItemsGiven (StepsBy items asks) (Next items May w) (Last items May w) s
     unfolding Reached
     may-given going =
         let answers : AnswersOf S w.at May =
@@ -97,13 +97,13 @@ module _ {A X F : Type 0} (view : A → X) (span : X → Span)
 
   module _ (s : Steps F) (going : s.done ≡ false) where
     -- its calls give
-    pub found : Given (stored_match_steps view span g) (FirstFound view span g s.backend (steps_iter_state s))
+    pub found : ItemsGiven (stored_match_steps view span g) (FirstFound view span g s.backend (steps_iter_state s))
         (AllFound view span g s.backend (steps_iter_state s)) s
     found = given-as (stored_match_steps view span g) (may-given answers s going)
         (λ xs h. record { come = h }) (λ xs h. record { come = h })
 
     -- and so do those of the iterator whose finder never errs
-    pub sure : Given (infallible_match_steps view span g) (FirstSure view span g s.backend (steps_iter_state s))
+    pub sure : ItemsGiven (infallible_match_steps view span g) (FirstSure view span g s.backend (steps_iter_state s))
         (AllSure view span g s.backend (steps_iter_state s)) s
     sure = given-inner (record {
       calls = infallible_match_steps view span g;
@@ -126,7 +126,7 @@ module _ {A X F : Type 0} (view : A → X) (span : X → Span)
       pub found-disjoint : AnswersAlong view g (AnswerIsInside span) s.backend (steps_iter_state s).at
           → RunsApart (stored_match_steps view span g) (spans_in view span) (steps_iter_state s) s
       found-disjoint serves = λ p seen from.
-          may-disjoint answers s answer-ordered serves p.items ((found s going).run p seen from).0.come
+          may-disjoint answers s answer-ordered serves p.items ((found s going).runs p seen from).0.come
 
       pub sure-disjoint : AnswersAlong view g (IsInfalliblyInside span) s.backend (steps_iter_state s).at
           → RunsApart (infallible_match_steps view span g) (map (λ m. span (view m))) (steps_iter_state s) s
@@ -134,7 +134,7 @@ module _ {A X F : Type 0} (view : A → X) (span : X → Span)
           subst (λ (l : List Span). AreSpansDisjoint (steps_iter_state s).at (steps_iter_state s).last l)
           (sure-spans p.items)
           (may-disjoint answers s answer-ordered (Along-weaker (λ t a k. k.0) serves) (map (λ m. Ok m) p.items)
-          ((sure s going).run p seen from).0.come)
+          ((sure s going).runs p seen from).0.come)
 
 -- If each call leaves the finder as it was, what it answers on one search it may answer along all calls.
 module _ {A X F : Type 0} {view : A → X} {g : Mut F (Bor Input × Unit {0}) (Result (Option A) SearchError)} {f : F}
@@ -214,12 +214,12 @@ module _ {F : Type 0} (g : Mut F (Bor Input × (MutBor Captured × Unit {0}))
     Whole = AllFilled g s.backend (steps_iter_state s)
 
     -- its calls give
-    pub caught : Given (stored_captures_steps g) First Whole s
+    pub caught : ItemsGiven (stored_captures_steps g) First Whole s
     caught = given-as (stored_captures_steps g) (may-given copies s going)
         (λ xs h. record { come = h }) (λ xs h. record { come = h })
 
     -- and so do those of the iterator whose finder never errs
-    pub sure-caught : Given (takes_infallible_captures g) First Whole s
+    pub sure-caught : ItemsGiven (takes_infallible_captures g) First Whole s
     sure-caught = given-as (takes_infallible_captures g)
         (given-inner (plain_shell (takes_infallible_captures g) (λ q. q) (λ q r t st. st.0)) caught)
         (λ xs h. rw (same-items xs) at h) (λ xs h. rw (same-items xs) at h)
@@ -228,13 +228,13 @@ module _ {F : Type 0} (g : Mut F (Bor Input × (MutBor Captured × Unit {0}))
     pub caught-disjoint : FillsAlong g (AnswerIsInside row_span) s.backend (steps_iter_state s).at
         → RunsApart (stored_captures_steps g) (spans_in row_of row_span) (steps_iter_state s) s
     caught-disjoint serves = λ p seen from.
-        may-disjoint copies s filled-ordered serves p.items (caught.run p seen from).0.come
+        may-disjoint copies s filled-ordered serves p.items (caught.runs p seen from).0.come
 
     pub sure-caught_disjoint : FillsAlong g (IsInfalliblyInside row_span) s.backend (steps_iter_state s).at
         → RunsApart (takes_infallible_captures g) (spans_in row_of row_span) (steps_iter_state s) s
     sure-caught_disjoint serves = λ p seen from.
         may-disjoint copies s filled-ordered (Along-weaker (λ t a k. k.0) serves) p.items
-        (sure-caught.run p seen from).0.come
+        (sure-caught.runs p seen from).0.come
 
 -- If each answer by the first relation is one by the second, the captures by the first are captures by the second.
 module _ {under tells : Search → Answer Row → Type 0} (so : (t : Search) (a : Answer Row) → under t a → tells t a)

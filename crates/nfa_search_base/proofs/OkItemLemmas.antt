@@ -1,10 +1,9 @@
 -- Items that are all `Ok`, and the one error that may end them.
 use Rattle.nfa_paths.proofs.Common.{◌≡◌, ◌≤◌, inl, inr, refl, ap, subst, arith, Option, None, Some, Result, Ok, Err, List, [], ◌∷◌, ◌++◌, map, All, IfOk, IfErr, All-nil, All-cons, Search, Span}
-use Rattle.nfa_search_base.specs.Common.{item_by, IsStep, Fails, ItemsNext, ItemsLast, OksAll, OksFirst, OksNext, OksRun, IterState, Answer, AnswerIsInside, fresh, after, answer_span, SearchError, Memory}
+use Rattle.nfa_search_base.specs.Common.{item_by, IsStep, Fails, ItemsGiven, ItemsNext, ItemsLast, OksGiven, IterState, Answer, AnswerIsInside, fresh, after, answer_span, SearchError, Memory}
 use Rattle.nfa_search_base.proofs.IterStateLemmas.{IsOrdered}
 use Rattle.nfa_search_base.proofs.ItemLemmas.{EndsAt, ItemsOf, Last, Next}
 use Rattle.nfa_search_base.proofs.ListLemmas.{as_items, last-next, step-asked, step-lies}
-use Rattle.nfa_search_base.proofs.RunLemmas.{Given}
 use Rattle.nfa_search_base.proofs.StepLemmas.{chosen}
 
 -- values as items
@@ -29,20 +28,12 @@ pub record OkedAs {Y : Type 0} (First Whole : List (Result Y SearchError) → Ty
   pub first : (ys : List Y) → First (oked ys) → FirstOk ys
   pub whole : (ys : List Y) → Whole (oked ys) → WholeOk ys
 
--- all that is shown of them
-pub record OksGiven {T Y : Type 0} (steps : T → Option (Result Y SearchError) → T → Type 0)
-    (FirstOk WholeOk : List Y → Type 0) (s : T) : Type 0 where
-  pub run : OksRun steps FirstOk WholeOk s
-  pub first : OksFirst steps FirstOk s
-  pub next : OksNext steps FirstOk s
-  pub all : OksAll steps WholeOk s
-
 pub oks-given : {T Y : Type 0} {First Whole : List (Result Y SearchError) → Type 0} {FirstOk WholeOk : List Y → Type 0}
     {steps : T → Option (Result Y SearchError) → T → Type 0} {s : T} → OkedAs First Whole FirstOk WholeOk
-    → Given steps First Whole s → OksGiven steps FirstOk WholeOk s
+    → ItemsGiven steps First Whole s → OksGiven steps FirstOk WholeOk s
 oks-given {First = First} {Whole = Whole} taken given = record {
-  run = λ p seen from ys are.
-      let k = given.run p seen from in
+  runs = λ p seen from ys are.
+      let k = given.runs p seen from in
       (taken.first ys (subst First are k.0), λ whole. taken.whole ys (subst Whole are (k.1 whole)));
   first = λ xs t ys ran are. taken.first ys (subst First are (given.first xs t ran));
   next = λ xs t i u ys y ran st are ok.

@@ -1,7 +1,7 @@
 -- The calls of an iterator that keeps its finder or engine give the items of its list.
 use Rattle.nfa_paths.proofs.Common.{◌≡◌, ◌⊎◌, inl, inr, true, false, refl, sym, ap, Option, None, Some, Result, Ok, Err, List, [], ◌∷◌, ◌++◌, map, Search, Span, arith}
 use Rattle.std.specs.Iterator.Runs.{YieldsRun}
-use Rattle.nfa_search_base.specs.Common.{SameButStart, item_by, CallsLead, IsStep, ItemsBy, RunsGive, GivesAll, GivesFirst, GivesNext, ends_at, steps_iter_state, IterState, Answer, Advances, fresh, shifted, after, answer_span, Yields, SearchError, Steps}
+use Rattle.nfa_search_base.specs.Common.{SameButStart, item_by, CallsLead, IsStep, ItemsBy, ItemsGiven, RunsGive, GivesFirst, GivesNext, ends_at, steps_iter_state, IterState, Answer, Advances, fresh, shifted, after, answer_span, Yields, SearchError, Steps}
 use Rattle.nfa_search_base.proofs.AskingLemmas.{same_start-self, same_start-then}
 use Rattle.nfa_search_base.proofs.ItemLemmas.{EndsAt, ItemsOf, Last, Next, Says, StepsBy, ShellOf, yields-inner}
 use Rattle.nfa_search_base.proofs.StepLemmas.{chosen, same_start-after, step-shown, step-taken}
@@ -14,13 +14,6 @@ module _ {T R : Type 0} (steps : T → Option R → T → Type 0) where
   yields-more [] s t u r ran st = (u, rw ran st, refl)
   yields-more (x ∷ xs) s t u r ran st = (ran.0, ran.1, yields-more xs ran.0 t u r ran.2 st)
 
-  -- all that is shown
-  pub record Given (First Whole : List R → Type 0) (s : T) : Type 0 where
-    pub run : RunsGive steps First Whole s
-    pub first : GivesFirst steps First s
-    pub next : GivesNext steps First s
-    pub all : GivesAll steps Whole s
-
   module _ (First Whole : List R → Type 0) (s : T) (first : GivesFirst steps First s)
       (all : (xs : List R) (t u : T) → Yields steps s xs t → steps t None u → Whole xs) where
     runs-give : RunsGive steps First Whole s
@@ -30,12 +23,13 @@ module _ {T R : Type 0} (steps : T → Option R → T → Type 0) where
     gives-next : GivesNext steps First s
     gives-next = λ xs t r u ran st. first (xs ++ r ∷ []) u (yields-more xs s t u r ran st)
 
-    pub given : Given First Whole s
-    given = record { run = runs-give; first = first; next = gives-next; all = all }
+    pub given : ItemsGiven steps First Whole s
+    given = record { runs = runs-give; first = first; next = gives-next; all = all }
 
   -- the items may be known as what they imply
-  pub given-as : {First Whole First' Whole' : List R → Type 0} {s : T} → Given First Whole s
-      → ((xs : List R) → First xs → First' xs) → ((xs : List R) → Whole xs → Whole' xs) → Given First' Whole' s
+  pub given-as : {First Whole First' Whole' : List R → Type 0} {s : T} → ItemsGiven steps First Whole s
+      → ((xs : List R) → First xs → First' xs) → ((xs : List R) → Whole xs → Whole' xs)
+      → ItemsGiven steps First' Whole' s
   given-as {First' = First'} {Whole' = Whole'} {s = s} k first whole = given First' Whole' s
       (λ xs t ran. first xs (k.first xs t ran)) (λ xs t u ran st. whole xs (k.all xs t u ran st))
 
@@ -59,8 +53,8 @@ calls-led ys last r ran over = record { items = map Ok ys; last = last; item = r
 
 -- the calls of a shell give what those of the iterator in it give
 pub given-inner : {U R I T : Type 0} {steps : U → Option I → U → Type 0} {item : R → I}
-    (shell : ShellOf steps item T) {First Whole : List I → Type 0} {s : T} → Given steps First Whole (shell.inner s)
-    → Given shell.calls (λ xs. First (map item xs)) (λ xs. Whole (map item xs)) s
+    (shell : ShellOf steps item T) {First Whole : List I → Type 0} {s : T}
+    → ItemsGiven steps First Whole (shell.inner s) → ItemsGiven shell.calls (λ xs. First (map item xs)) (λ xs. Whole (map item xs)) s
 given-inner {item = item} shell {First = First} {Whole = Whole} {s = s} k =
     given shell.calls (λ xs. First (map item xs)) (λ xs. Whole (map item xs)) s
     (λ xs t ran. k.first (map item xs) (shell.inner t) (yields-inner shell xs s t ran))
@@ -156,7 +150,7 @@ module _ {S X Y : Type 0} (items : ItemsOf S X Y) {x : Search} {tells : Search �
       (k.0, ap (map (item_by items.view)) (no-more items answers.asks xs ran.0 t k.1 ran.2).0)
 
   -- so the calls of an iterator at w give the next items, and at `None` the last ones
-  pub given-at : (w : IterState) (s : Steps S) → IsAt w s → Given steps (Next items tells w) (Last items tells w) s
+  pub given-at : (w : IterState) (s : Steps S) → IsAt w s → ItemsGiven steps (Next items tells w) (Last items tells w) s
   given-at w s at = given steps (Next items tells w) (Last items tells w) s
       (λ xs t ran. items-from (λ v. Unit {0}) t (λ v here. tt) xs w s at ran)
       (λ xs t u ran st.
@@ -165,7 +159,7 @@ module _ {S X Y : Type 0} (items : ItemsOf S X Y) {x : Search} {tells : Search �
   -- The calls of a shell are those of an iterator in it that begins at x.
   module _ {T R : Type 0} {item : R → Result Y SearchError} (shell : ShellOf steps item T) (s : T)
       (begins : Begins answers.Good x (shell.inner s)) where
-    pub items-given : Given shell.calls (λ xs. Next items tells (fresh x) (map item xs))
+    pub items-given : ItemsGiven shell.calls (λ xs. Next items tells (fresh x) (map item xs))
         (λ xs. Last items tells (fresh x) (map item xs)) s
     items-given = given-inner shell (given-at (fresh x) (shell.inner s) (record {
       iter_state = begins.iter_state;

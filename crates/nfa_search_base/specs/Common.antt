@@ -14,7 +14,7 @@ pub use Rattle.nfa_search_base.specs.Items.{FindsEnds, GivesItem, HalfAndFullAgr
 pub use Rattle.nfa_search_base.specs.IterStates.{Advances, Answer, AnswerIsInside, ComesAfter, EndsBy, HaystackTooLong, IsInfalliblyInside, IterState, LeavesFewer, LiesIn, Memory, SameButStart, SearchError, after, answer_span, ended_at, ends_left, fresh, half_span_of, repeats, shifted, span_of}
 unfoldable pub use Rattle.nfa_search_base.specs.Lists.{finds}
 pub use Rattle.nfa_search_base.specs.Lists.{AnswersMatch, AnswersRow, AreAllCaptures, AreAllStoredCaptures, AreAllStoredMatches, AreDisjoint, AreFirstCaptures, AreFirstMatches, AreFirstRows, AreFirstStoredMatches, AreMatches, AreRows, AreSpansDisjoint, Fails, FailsOrIsRefused, HasGroups, IsInside, IsRow, IsSlotInside, IsSpanInside, IsStep, ItemsBy, ItemsLast, ItemsNext, SpansInside}
-pub use Rattle.nfa_search_base.specs.Runs.{AreAll, AreFirst, CallsLead, CapturesGiven, CapturesInside, CapturesMemory, DrainsAll, DrainsToError, GivesAll, GivesFirst, GivesKept, GivesNext, MatchesAre, MatchesAreAll, MatchesAreFirst, MatchesDisjoint, MatchesFirst, MatchesNext, MatchesRun, OksAll, OksFirst, OksNext, OksRun, RowsAreAll, RowsAreFirst, RunsGive, match_in}
+pub use Rattle.nfa_search_base.specs.Runs.{AreAll, AreFirst, CallsLead, CapturesGiven, CapturesInside, CapturesMemory, DrainsAll, DrainsToError, GivesAll, GivesFirst, GivesKept, GivesNext, ItemsGiven, MatchesAreAll, MatchesAreFirst, MatchesGiven, OksAll, OksFirst, OksGiven, OksNext, OksRun, RowsAreAll, RowsAreFirst, RunsGive, match_in}
 pub use Rattle.nfa_search_base.specs.Stored.{Steps, GivesStepsWith, KeepsStepsWith, StepsWith, TakesBareStep, TakesStep, TakesStepWith, WithCache, accepts_whole, asks_whole, can_step, can_step_infallibly, count_left, held_item, infallible_left, iter_state_of, only_cache, steps_from, steps_iter_state, steps_left, steps_whole, steps_with_state, takes_bare_steps, takes_infallible_steps, takes_steps, with_cache, with_finder}
 pub use Rattle.nfa_search_base.specs.StoredRuns.{AllFilled, AllFound, AllSure, FirstFilled, FirstFound, FirstSure, MayAnswer, MayAnswerRow, RunsApart, infallible_match_steps, spans_in, stored_captures_steps, stored_match_steps, takes_infallible_captures}
 pub use Rattle.nfa_search_base.specs.WithCaptures.{CanFill, Fills, FillsAlong, FillsBy, GivesCaptures, GivesCopy, LendsItem, Row, UpToRefusal, WithCaptures, YieldsUpToRefusal, filled_answer, held_unless, lent_item, row_found, row_of, row_span}

@@ -28,6 +28,13 @@ module _ {T R : Type 0} (steps : T → Option R → T → Type 0) where
   abbrev pub GivesKept : (T → T → Type 0) → T → Type 0
   GivesKept Keeps s = (xs : List R) (t : T) (r : Option R) (u : T) → Yields steps s xs t → steps t r u → Keeps s u
 
+  -- all of this but the last
+  pub record ItemsGiven (First Whole : List R → Type 0) (s : T) : Type 0 where
+    pub runs : RunsGive First Whole s
+    pub first : GivesFirst First s
+    pub next : GivesNext First s
+    pub all : GivesAll Whole s
+
 -- The same for an iterator whose items may be errors, if they are all `Ok`. `First` and `Whole` are of their values.
 module _ {T Y E : Type 0} (steps : T → Option (Result Y E) → T → Type 0) where
   abbrev pub OksRun : (List Y → Type 0) → (List Y → Type 0) → T → Type 0
@@ -44,6 +51,13 @@ module _ {T Y E : Type 0} (steps : T → Option (Result Y E) → T → Type 0) w
   abbrev pub OksAll : (List Y → Type 0) → T → Type 0
   OksAll Whole s = (xs : List (Result Y E)) (t u : T) (ys : List Y) → Yields steps s xs t → steps t None u
       → xs ≡ map Ok ys → Whole ys
+
+  -- all of this
+  pub record OksGiven (First Whole : List Y → Type 0) (s : T) : Type 0 where
+    pub runs : OksRun First Whole s
+    pub first : OksFirst First s
+    pub next : OksNext First s
+    pub all : OksAll Whole s
 
 -- `steps` is a call of the iterator. The calls begin at s.
 module _ {T Y : Type 0} (steps : T → Option (Result Y SearchError) → T → Type 0) (s : T) where
@@ -78,28 +92,18 @@ module _ (nfa : Automaton) (kind : MatchKind) (x : Search) where
   abbrev pub AreAll : List Match → Type 0
   AreAll xs = AreMatches nfa kind x.earliest x (map found_of xs)
 
-  module _ {T : Type 0} (steps : T → Option Match → T → Type 0) where
+  -- All that the calls of an iterator at s have given.
+  pub record MatchesGiven {T : Type 0} (steps : T → Option Match → T → Type 0) (s : T) : Type 0 where
     -- the items of each run of calls are the first matches of x, and all of them if the run reaches `None`
-    abbrev pub MatchesRun : T → Type 0
-    MatchesRun s = RunsGive steps AreFirst AreAll s
-
-    -- the items so far are the first matches of x
-    abbrev pub MatchesFirst : T → Type 0
-    MatchesFirst s = GivesFirst steps AreFirst s
-
-    -- after an item, the items so far with that item are the first matches
-    abbrev pub MatchesNext : T → Type 0
-    MatchesNext s = GivesNext steps AreFirst s
-
-    -- If a list is that of the matches of x, the items of each run are its first elements, and all of them if the run
-    -- reaches `None`.
-    abbrev pub MatchesAre : T → Type 0
-    MatchesAre s = EachRunFrom steps s (λ p. (all : List Found) → AreMatches nfa kind x.earliest x all
+    pub runs : RunsGive steps AreFirst AreAll s
+    -- the items so far are the first matches, and so they are with the next item
+    pub first : GivesFirst steps AreFirst s
+    pub next : GivesNext steps AreFirst s
+    -- if a list is that of the matches of x, the items are its first elements, and all of them at `None`
+    pub are : EachRunFrom steps s (λ p. (all : List Found) → AreMatches nfa kind x.earliest x all
         → ItemsMapTo p found_of all)
-
-    -- the items of each run are in the span, in order and without overlap
-    abbrev pub MatchesDisjoint : T → Type 0
-    MatchesDisjoint s = EachRunFrom steps s (λ p. AreDisjoint x None (map found_of p.items)
+    -- the items are in the span, in order and without overlap
+    pub disjoint : EachRunFrom steps s (λ p. AreDisjoint x None (map found_of p.items)
         × All (λ m. IsInside x (found_of m)) p.items)
 
 -- the match of captures that have one

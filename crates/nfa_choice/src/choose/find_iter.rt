@@ -24,7 +24,7 @@ impl Choice {
     ghost use Rattle.regex_search_core.specs.Found.{found_of};
     ghost use Rattle.regex_search_core.specs.Search.{search_of};
     ghost use Rattle.nfa_search_base.specs.Lists.{IsInside};
-    ghost use Rattle.nfa_search_base.specs.Runs.{MatchesRun, MatchesAre, MatchesDisjoint, MatchesFirst, MatchesNext};
+    ghost use Rattle.nfa_search_base.specs.Runs.{MatchesGiven};
     ghost use Rattle.nfa_search_base.specs.Stored.{GivesStepsWith};
     ghost use Rattle.nfa_choice.specs.Answered.{ListsMatches};
     ghost use Rattle.nfa_choice.specs.ChoiceState.{kind_in, KeepsEngines};
@@ -48,15 +48,7 @@ impl Choice {
         ensures same_reference { (choice_matches result).cache.ghost_name ≡ self.entry.ghost_name }
         ensures same_choice { (choice_matches result).cache.now ≡ self.entry.now }
         // Each run of calls gives the first matches of the input, and all of them if it goes on to `None`.
-        ensures runs { MatchesRun self.entry.now.nfa (kind_in self.entry.now)
-            (search_of input.entry) choice_matches_next result }
-        ensures are { MatchesAre self.entry.now.nfa (kind_in self.entry.now)
-            (search_of input.entry) choice_matches_next result }
-        ensures disjoint { MatchesDisjoint self.entry.now.nfa (kind_in self.entry.now)
-            (search_of input.entry) choice_matches_next result }
-        ensures first { MatchesFirst self.entry.now.nfa (kind_in self.entry.now)
-            (search_of input.entry) choice_matches_next result }
-        ensures next { MatchesNext self.entry.now.nfa (kind_in self.entry.now)
+        ensures given { MatchesGiven self.entry.now.nfa (kind_in self.entry.now)
             (search_of input.entry) choice_matches_next result }
         // The choice changes only by the searches of the steps.
         ensures searches { ChoiceFindsBySearches (search_of input.entry) result }

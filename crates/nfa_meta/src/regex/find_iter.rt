@@ -33,7 +33,7 @@ impl Regex {
     ghost use Rattle.regex_search_core.specs.Found.{found_of};
     ghost use Rattle.regex_search_core.specs.Search.{search_of};
     ghost use Rattle.nfa_search_base.specs.Lists.{IsInside};
-    ghost use Rattle.nfa_search_base.specs.Runs.{MatchesRun, MatchesAre, MatchesDisjoint, MatchesFirst, MatchesNext};
+    ghost use Rattle.nfa_search_base.specs.Runs.{MatchesGiven};
     ghost use Rattle.nfa_choice.specs.Answered.{ListsMatches};
     ghost use Rattle.nfa_choice.specs.ChoiceState.{kind_in};
     ghost use Rattle.nfa_meta.specs.RegexState.{KeepsRegex};
@@ -57,15 +57,7 @@ impl Regex {
         ensures same_reference { (finds_regex result).ghost_name ≡ self.entry.ghost_name }
         ensures same_regex { (finds_regex result).now ≡ self.entry.now }
         // Each run of calls gives the first matches of the input, and all of them if it goes on to `None`.
-        ensures runs { MatchesRun self.entry.now.choice.nfa (kind_in self.entry.now.choice)
-            (search_of input.entry) finds_next result }
-        ensures are { MatchesAre self.entry.now.choice.nfa (kind_in self.entry.now.choice)
-            (search_of input.entry) finds_next result }
-        ensures disjoint { MatchesDisjoint self.entry.now.choice.nfa (kind_in self.entry.now.choice)
-            (search_of input.entry) finds_next result }
-        ensures first { MatchesFirst self.entry.now.choice.nfa (kind_in self.entry.now.choice)
-            (search_of input.entry) finds_next result }
-        ensures next { MatchesNext self.entry.now.choice.nfa (kind_in self.entry.now.choice)
+        ensures given { MatchesGiven self.entry.now.choice.nfa (kind_in self.entry.now.choice)
             (search_of input.entry) finds_next result }
         // The engines change only by the searches of the steps.
         ensures searches { FindsBySearches (search_of input.entry) result }

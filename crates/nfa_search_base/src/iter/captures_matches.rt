@@ -39,7 +39,7 @@ impl<'h> Searcher<'h> {
     ghost use Rattle.nfa_search_base.specs.WithCaptures.{GivesCaptures, YieldsUpToRefusal};
     ghost use Rattle.nfa_search_base.specs.Items.{item_by, greedy};
     ghost use Rattle.nfa_search_base.specs.Stored.{iter_state_of, steps_iter_state, can_step, takes_steps};
-    ghost use Rattle.nfa_search_base.specs.Runs.{GivesAll, GivesFirst, GivesNext, RunsGive};
+    ghost use Rattle.nfa_search_base.specs.Runs.{ItemsGiven};
     ghost use Rattle.nfa_search_base.specs.StoredRuns.{AllFilled, FirstFilled, RunsApart, spans_in};
     ghost use Rattle.nfa_search_base.specs.StoredRuns.{stored_captures_steps};
     ghost use Rattle.nfa_search_base.specs.IterStates.{Answer, AnswerIsInside};
@@ -70,14 +70,8 @@ impl<'h> Searcher<'h> {
         ensures finder { result.backend ≡ record { finder = finder; captures = captures } }
         ensures going { result.done ≡ false }
         // The items of each run of calls are the first captures, and all of them if the run reaches `None`.
-        ensures runs { RunsGive (stored_captures_steps F.FnMut)
+        ensures given { ItemsGiven (stored_captures_steps F.FnMut)
             (FirstFilled F.FnMut (record { finder = finder; captures = captures }) (iter_state_of self.entry))
-            (AllFilled F.FnMut (record { finder = finder; captures = captures }) (iter_state_of self.entry)) result }
-        ensures first { GivesFirst (stored_captures_steps F.FnMut)
-            (FirstFilled F.FnMut (record { finder = finder; captures = captures }) (iter_state_of self.entry)) result }
-        ensures next { GivesNext (stored_captures_steps F.FnMut)
-            (FirstFilled F.FnMut (record { finder = finder; captures = captures }) (iter_state_of self.entry)) result }
-        ensures all { GivesAll (stored_captures_steps F.FnMut)
             (AllFilled F.FnMut (record { finder = finder; captures = captures }) (iter_state_of self.entry)) result }
         // Their matches are in the span, in order and without overlap.
         ensures disjoint { RunsApart (stored_captures_steps F.FnMut) (spans_in row_of row_span)
@@ -106,7 +100,7 @@ impl<'h, F> TryCapturesIter<'h, F> {
     ghost use Rattle.nfa_search_base.specs.StoredRuns.{takes_infallible_captures};
     ghost use Rattle.nfa_search_base.specs.Items.{item_by, greedy_unless};
     ghost use Rattle.nfa_search_base.specs.Stored.{steps_iter_state, can_step_infallibly};
-    ghost use Rattle.nfa_search_base.specs.Runs.{GivesAll, GivesFirst, GivesNext, RunsGive};
+    ghost use Rattle.nfa_search_base.specs.Runs.{ItemsGiven};
     ghost use Rattle.nfa_search_base.specs.StoredRuns.{AllFilled, FirstFilled, RunsApart, spans_in};
     ghost use Rattle.nfa_search_base.specs.IterStates.{Answer, IsInfalliblyInside};
 
@@ -126,14 +120,8 @@ impl<'h, F> TryCapturesIter<'h, F> {
         ensures can { can_step_infallibly (CanFill F.FnMut) (Fills F.FnMut) row_span result }
         ensures same { result ≡ self.entry }
         // The items of each run of calls are the first captures, and all of them if the run reaches `None`.
-        ensures runs { self.entry.done ≡ false → RunsGive (takes_infallible_captures F.FnMut)
+        ensures given { self.entry.done ≡ false → ItemsGiven (takes_infallible_captures F.FnMut)
             (FirstFilled F.FnMut self.entry.backend (steps_iter_state self.entry))
-            (AllFilled F.FnMut self.entry.backend (steps_iter_state self.entry)) result }
-        ensures first { self.entry.done ≡ false → GivesFirst (takes_infallible_captures F.FnMut)
-            (FirstFilled F.FnMut self.entry.backend (steps_iter_state self.entry)) result }
-        ensures next { self.entry.done ≡ false → GivesNext (takes_infallible_captures F.FnMut)
-            (FirstFilled F.FnMut self.entry.backend (steps_iter_state self.entry)) result }
-        ensures all { self.entry.done ≡ false → GivesAll (takes_infallible_captures F.FnMut)
             (AllFilled F.FnMut self.entry.backend (steps_iter_state self.entry)) result }
         // Their matches are in the span, in order and without overlap.
         ensures disjoint { self.entry.done ≡ false

@@ -50,7 +50,7 @@ impl<'h> Searcher<'h> {
     ghost use Rattle.nfa_search_base.specs.Finders.{Finds, AnswersAlong, Computes, IsCallableOn};
     ghost use Rattle.nfa_search_base.specs.Items.{item_by, greedy, GivesItem};
     ghost use Rattle.nfa_search_base.specs.Stored.{iter_state_of, steps_iter_state, can_step, takes_steps};
-    ghost use Rattle.nfa_search_base.specs.Runs.{GivesAll, GivesFirst, GivesNext, RunsGive};
+    ghost use Rattle.nfa_search_base.specs.Runs.{ItemsGiven};
     ghost use Rattle.nfa_search_base.specs.StoredRuns.{AllFound, FirstFound, RunsApart, spans_in};
     ghost use Rattle.nfa_search_base.specs.StoredRuns.{stored_match_steps};
 
@@ -78,14 +78,8 @@ impl<'h> Searcher<'h> {
         ensures finder { result.backend ≡ finder }
         ensures going { result.done ≡ false }
         // The items of each run of calls are the first items, and all of them if the run reaches `None`.
-        ensures runs { RunsGive (stored_match_steps found_of span_of F.FnMut)
+        ensures given { ItemsGiven (stored_match_steps found_of span_of F.FnMut)
             (FirstFound found_of span_of F.FnMut finder (iter_state_of self.entry))
-            (AllFound found_of span_of F.FnMut finder (iter_state_of self.entry)) result }
-        ensures first { GivesFirst (stored_match_steps found_of span_of F.FnMut)
-            (FirstFound found_of span_of F.FnMut finder (iter_state_of self.entry)) result }
-        ensures next { GivesNext (stored_match_steps found_of span_of F.FnMut)
-            (FirstFound found_of span_of F.FnMut finder (iter_state_of self.entry)) result }
-        ensures all { GivesAll (stored_match_steps found_of span_of F.FnMut)
             (AllFound found_of span_of F.FnMut finder (iter_state_of self.entry)) result }
         // They are in the span, in order and without overlap.
         ensures disjoint { RunsApart (stored_match_steps found_of span_of F.FnMut) (spans_in found_of span_of)
@@ -122,14 +116,8 @@ impl<'h> Searcher<'h> {
         ensures finder { result.backend ≡ finder }
         ensures going { result.done ≡ false }
         // The items of each run of calls are the first items, and all of them if the run reaches `None`.
-        ensures runs { RunsGive (stored_match_steps half_found_of half_span_of F.FnMut)
+        ensures given { ItemsGiven (stored_match_steps half_found_of half_span_of F.FnMut)
             (FirstFound half_found_of half_span_of F.FnMut finder (iter_state_of self.entry))
-            (AllFound half_found_of half_span_of F.FnMut finder (iter_state_of self.entry)) result }
-        ensures first { GivesFirst (stored_match_steps half_found_of half_span_of F.FnMut)
-            (FirstFound half_found_of half_span_of F.FnMut finder (iter_state_of self.entry)) result }
-        ensures next { GivesNext (stored_match_steps half_found_of half_span_of F.FnMut)
-            (FirstFound half_found_of half_span_of F.FnMut finder (iter_state_of self.entry)) result }
-        ensures all { GivesAll (stored_match_steps half_found_of half_span_of F.FnMut)
             (AllFound half_found_of half_span_of F.FnMut finder (iter_state_of self.entry)) result }
         // They are in the span, in order and without overlap.
         ensures disjoint { RunsApart (stored_match_steps half_found_of half_span_of F.FnMut)
@@ -153,7 +141,7 @@ impl<'h, M, F> TryFoundIter<'h, M, F> {
     ghost use Rattle.nfa_search_base.specs.Items.{matches_in, greedy_unless, GivesItem};
     ghost use Rattle.nfa_search_base.specs.Stored.{steps_iter_state, steps_from, can_step_infallibly};
     ghost use Rattle.nfa_search_base.specs.Stored.{takes_infallible_steps};
-    ghost use Rattle.nfa_search_base.specs.Runs.{GivesAll, GivesFirst, GivesNext, RunsGive};
+    ghost use Rattle.nfa_search_base.specs.Runs.{ItemsGiven};
     ghost use Rattle.nfa_search_base.specs.StoredRuns.{AllSure, FirstSure, RunsApart, infallible_match_steps};
 
     fn new(searcher: Searcher<'h>, finder: F) -> TryFoundIter<'h, M, F>
@@ -186,14 +174,8 @@ impl<'h, M, F> TryFoundIter<'h, M, F> {
         ensures can { can_step_infallibly (IsCallableOn F.FnMut) (Finds M.value F.FnMut) M.span result }
         ensures same { result ≡ self.entry }
         // The items of each run of calls are the first matches, and all of them if the run reaches `None`.
-        ensures runs { self.entry.done ≡ false → RunsGive (infallible_match_steps M.value M.span F.FnMut)
+        ensures given { self.entry.done ≡ false → ItemsGiven (infallible_match_steps M.value M.span F.FnMut)
             (FirstSure M.value M.span F.FnMut self.entry.backend (steps_iter_state self.entry))
-            (AllSure M.value M.span F.FnMut self.entry.backend (steps_iter_state self.entry)) result }
-        ensures first { self.entry.done ≡ false → GivesFirst (infallible_match_steps M.value M.span F.FnMut)
-            (FirstSure M.value M.span F.FnMut self.entry.backend (steps_iter_state self.entry)) result }
-        ensures next { self.entry.done ≡ false → GivesNext (infallible_match_steps M.value M.span F.FnMut)
-            (FirstSure M.value M.span F.FnMut self.entry.backend (steps_iter_state self.entry)) result }
-        ensures all { self.entry.done ≡ false → GivesAll (infallible_match_steps M.value M.span F.FnMut)
             (AllSure M.value M.span F.FnMut self.entry.backend (steps_iter_state self.entry)) result }
         // They are in the span, in order and without overlap.
         ensures disjoint { self.entry.done ≡ false

@@ -7,5 +7,5 @@ use Rattle.callers.proofs.finders.collected.Goals as goal
 
 pub returns : goal.returns
 returns c = collected_as EmptyTells _ c.collect.result c.collect.ensures.ran
-    c.into_matches_iter-items.ensures.all (c.new-searcher.ensures ∙ ap fresh c.new-input.ensures)
+    c.into_matches_iter-items.ensures.given.all (c.new-searcher.ensures ∙ ap fresh c.new-input.ensures)
     (λ t a f' found. search rules)

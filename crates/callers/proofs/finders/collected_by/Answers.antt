@@ -7,4 +7,4 @@ use Rattle.callers.proofs.finders.collected_by.Goals as goal
 pub returns : goal.returns
 returns g c = collected_all (stored_match_steps found_of span_of g.F.FnMut) _ c.into_matches_iter.result
     c.collect.result
-    c.collect.ensures.ran c.into_matches_iter.ensures.all
+    c.collect.ensures.ran c.into_matches_iter.ensures.given.all

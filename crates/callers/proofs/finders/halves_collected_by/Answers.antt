@@ -6,4 +6,4 @@ use Rattle.callers.proofs.finders.halves_collected_by.Goals as goal
 
 pub returns : goal.returns
 returns g c = collected_all (stored_match_steps half_found_of half_span_of g.F.FnMut) _ c.into_half_matches_iter.result
-    c.collect.result c.collect.ensures.ran c.into_half_matches_iter.ensures.all
+    c.collect.result c.collect.ensures.ran c.into_half_matches_iter.ensures.given.all

@@ -21,4 +21,4 @@ returns c =
     let x = search_of c.new.result in
     subst (λ y. IfSome c.next.result (λ m. AreFirstMatches nfa kind y.earliest y (found_of m ∷ []))) c.new.ensures
     (first pike_matches_next (λ ms. AreFirstMatches nfa kind x.earliest x (map found_of ms)) c.find_iter-items.result
-    c.next.new.self c.next.result c.find_iter-items.ensures.next c.next.ensures.steps)
+    c.next.new.self c.next.result c.find_iter-items.ensures.given.next c.next.ensures.steps)

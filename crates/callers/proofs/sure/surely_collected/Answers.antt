@@ -6,6 +6,6 @@ use Rattle.callers.proofs.sure.surely_collected.Goals as goal
 
 pub returns : goal.returns
 returns c = collected_infallibly_as (IsInfalliblyInside span_of) _ c.collect.result c.collect.ensures.ran
-    (c.infallible-items.ensures.all c.into_matches_iter.ensures.going)
+    (c.infallible-items.ensures.given c.into_matches_iter.ensures.going).all
     (c.into_matches_iter.ensures.iter_state ∙ c.new-searcher.ensures ∙ ap fresh c.new-input.ensures)
     (λ t a f' found. search rules)

@@ -16,7 +16,7 @@ returns-in_err-found-clause-by_length c =
     let x = search_of c.new.result in
     let given : GivesByLength e x c.into_iter-found-iterator.result =
     subst (λ s. GivesByLength e x s) (sym c.into_iter-found-iterator.ensures.into_iter_gives)
-    c.try_find_iter-found-items.ensures.by_length in
+    c.try_find_iter-found-items.ensures.by_length.items in
     let told : AnswersByLength e (whole c.args.haystack.now) c.in-Some.found =
     subst (λ y. AnswersByLength e y c.in-Some.found) c.new.ensures
     (given c.loop-found.yielded _ _ _ c.loop-found.yielded_by c.in-Some.ensures.steps) in
@@ -30,7 +30,7 @@ overflow_add-count c =
     let given : OksFirst backtrack_matches_next (OksAreFirst e x) c.into_iter-found-iterator.result =
     subst (λ s. OksFirst backtrack_matches_next (OksAreFirst e x) s)
     (sym c.into_iter-found-iterator.ensures.into_iter_gives)
-    c.try_find_iter-found-items.ensures.first_matches in
+    c.try_find_iter-found-items.ensures.matches.first in
     let ms = c.loop-found.invariant.0 in
     let first : OksAreFirst e (whole c.args.haystack.now) ms =
     subst (λ y. OksAreFirst e y ms) c.new.ensures
@@ -53,7 +53,7 @@ returns-clause-count c =
     let given : OksAll backtrack_matches_next (OksAreAll e x) c.into_iter-found-iterator.result =
     subst (λ s. OksAll backtrack_matches_next (OksAreAll e x) s)
     (sym c.into_iter-found-iterator.ensures.into_iter_gives)
-    c.try_find_iter-found-items.ensures.all_matches in
+    c.try_find_iter-found-items.ensures.matches.all in
     let ms = c.loop-found.invariant.0 in
     record {
       all = map found_of ms;

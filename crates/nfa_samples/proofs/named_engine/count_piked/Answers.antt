@@ -8,7 +8,7 @@ use Rattle.regex_search_core.specs.declared.search.Match.{Match}
 use Rattle.nfa_engines.specs.Engines.{kind_of}
 use Rattle.nfa_engines.specs.Lists.{AreFirstMatches, AreMatches}
 use Rattle.nfa_engines.specs.PikeVMIterators.{pike_matches_next}
-use Rattle.nfa_engines.specs.Runs.{MatchesFirst, MatchesRun}
+use Rattle.nfa_engines.specs.Runs.{MatchesGiven}
 use Rattle.nfa_samples.proofs.CountLemmas.{few-matches}
 use Rattle.nfa_samples.proofs.named_engine.count_piked.Goals as goal
 
@@ -18,11 +18,11 @@ overflow_add-count c =
     let kind = kind_of c.args.engine.now in
     let x = search_of c.new.result in
     let ms = c.loop-found.yielded in
-    let given : MatchesFirst nfa kind x pike_matches_next c.into_iter-found-iterator.result =
-    subst (λ s. MatchesFirst nfa kind x pike_matches_next s)
-    (sym c.into_iter-found-iterator.ensures.into_iter_gives) c.find_iter-found-items.ensures.first in
+    let given : MatchesGiven nfa kind x pike_matches_next c.into_iter-found-iterator.result =
+    subst (λ s. MatchesGiven nfa kind x pike_matches_next s)
+    (sym c.into_iter-found-iterator.ensures.into_iter_gives) c.find_iter-found-items.ensures.given in
     let first = subst (λ y. AreFirstMatches nfa kind y.earliest y (map found_of ms)) c.new.ensures
-    (given ms _ c.loop-found.yielded_by) in
+    (given.first ms _ c.loop-found.yielded_by) in
     let few = few-matches nfa c.args.haystack.now ms
     (subst (λ k. AreFirstMatches nfa k false (whole c.args.haystack.now) (map found_of ms)) c.requires.kind first) in
     omega (arith, few, c.loop-found.invariant, c.type_inv.haystack)
@@ -33,13 +33,13 @@ returns-clause-count c =
     let kind = kind_of c.args.engine.now in
     let x = search_of c.new.result in
     let ms = c.loop-found.yielded in
-    let given : MatchesRun nfa kind x pike_matches_next c.into_iter-found-iterator.result =
-    subst (λ s. MatchesRun nfa kind x pike_matches_next s)
-    (sym c.into_iter-found-iterator.ensures.into_iter_gives) c.find_iter-found-items.ensures.runs in
+    let given : MatchesGiven nfa kind x pike_matches_next c.into_iter-found-iterator.result =
+    subst (λ s. MatchesGiven nfa kind x pike_matches_next s)
+    (sym c.into_iter-found-iterator.ensures.into_iter_gives) c.find_iter-found-items.ensures.given in
     let run = run_of_exit pike_matches_next c.into_iter-found-iterator.result ms _ c.loop-found.yielded_by _
     c.in-None.ensures.steps in
     let all = subst (λ (xs : List Match). AreMatches nfa kind x.earliest x (map found_of xs)) run.3.0
-    ((given run.0 run.0.seen run.1).1 run.2) in
+    ((given.runs run.0 run.0.seen run.1).1 run.2) in
     record {
       all = map found_of ms;
       are_all = subst (λ k. AreMatches nfa k false (whole c.args.haystack.now) (map found_of ms)) c.requires.kind

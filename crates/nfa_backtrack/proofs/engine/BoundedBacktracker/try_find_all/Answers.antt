@@ -25,7 +25,7 @@ pub returns-in_err-push-clause-by_length : goal.returns-in_err-push-clause-by_le
 returns-in_err-push-clause-by_length c =
     let by_length : GivesByLength c.args.self.now (search_of c.args.input) c.into_iter-item-iterator.result =
     subst (λ s. GivesByLength c.args.self.now (search_of c.args.input) s)
-    (sym c.into_iter-item-iterator.ensures.into_iter_gives) c.try_find_iter-item-items.ensures.by_length in
+    (sym c.into_iter-item-iterator.ensures.into_iter_gives) c.try_find_iter-item-items.ensures.by_length.items in
     let told : AnswersByLength c.args.self.now (search_of c.args.input) c.in-Some.item =
     by_length c.loop-item.yielded _ _ _ c.loop-item.yielded_by c.in-Some.ensures.steps in
     let fits = rw c.in_ok-item.was at told in

@@ -7,18 +7,13 @@ use Rattle.nfa_choice.proofs.choose.Choice.find_iter.Goals as goal
 pub returns : goal.returns
 returns c =
     let x = search_of c.args.input in
-    let given = finds-given rule_finder choice_matches x _ c.new.ensures refl in
     record {
       same_reference = refl;
       same_choice = refl;
+      given = finds-given rule_finder choice_matches x _ c.new.ensures refl;
       searches = record {
         on = finds-on rule_finder choice_matches x _ c.new.ensures refl;
         to_end = finds-to_end rule_finder choice_matches x _ c.new.ensures refl;
       };
       keeps = finds-kept rule_finder choice_matches _;
-      runs = given.runs;
-      are = given.are;
-      disjoint = given.disjoint;
-      first = given.first;
-      next = given.next;
     }

@@ -1,6 +1,6 @@
 -- The matches of the iterator are those of the text.
 use Rattle.nfa_paths.proofs.Common.{refl, subst, Search}
-use Rattle.nfa_search_base.specs.Common.{MatchesFirst, MatchesRun}
+use Rattle.nfa_search_base.specs.Common.{MatchesGiven}
 use Rattle.nfa_choice.specs.ChoiceState.{kind_in}
 use Rattle.nfa_meta.specs.Matches.{finds_next}
 use Rattle.nfa_meta.proofs.regex.Regex.begin_split.Goals as goal
@@ -9,10 +9,9 @@ pub returns-clause-begins : goal.returns-clause-begins
 returns-clause-begins c =
     let r = c.args.self.now.choice in
     let s = c.find_iter.result in
-    let found = c.find_iter.ensures in
     record {
-      first = subst (λ (x : Search). MatchesFirst r.nfa (kind_in r) x finds_next s) c.new.ensures found.first;
-      runs = subst (λ (x : Search). MatchesRun r.nfa (kind_in r) x finds_next s) c.new.ensures found.runs;
+      given = subst (λ (x : Search). MatchesGiven r.nfa (kind_in r) x finds_next s) c.new.ensures
+          c.find_iter.ensures.given;
       start = refl;
       end = refl;
       going = refl;

@@ -2,7 +2,7 @@
 use Rattle.nfa_paths.proofs.Common.{rules, ◌∙◌, List, ap, arith, common_steps, map, subst, sym, found_of, search_of, Match}
 use Rattle.std.proofs.iter.runs.Made.{run_of_exit}
 use Rattle.std.proofs.lemmas.List.{length-map}
-use Rattle.nfa_search_base.specs.Common.{AreMatches, MatchesFirst, MatchesRun}
+use Rattle.nfa_search_base.specs.Common.{AreMatches, MatchesGiven}
 use Rattle.nfa_choice.specs.ChoiceState.{kind_in}
 use Rattle.nfa_meta.specs.Counted.{CountsMatches}
 use Rattle.nfa_meta.specs.Matches.{FindsBySearches, FindsGiveKept, RegexFindsOn, RegexFindsToEnd, finds_next}
@@ -17,10 +17,10 @@ overflow_add-count c =
     let kind = kind_in c.args.self.now.choice in
     let x = search_of c.args.input in
     let ms = c.loop-found.yielded in
-    let given : MatchesFirst nfa kind x finds_next c.into_iter-found-iterator.result =
-    subst (λ s. MatchesFirst nfa kind x finds_next s) (sym c.into_iter-found-iterator.ensures.into_iter_gives)
-    c.find_iter-found-items.ensures.first in
-    let few = few-matches nfa kind x ms (given ms _ c.loop-found.yielded_by) in
+    let given : MatchesGiven nfa kind x finds_next c.into_iter-found-iterator.result =
+    subst (λ s. MatchesGiven nfa kind x finds_next s) (sym c.into_iter-found-iterator.ensures.into_iter_gives)
+    c.find_iter-found-items.ensures.given in
+    let few = few-matches nfa kind x ms (given.first ms _ c.loop-found.yielded_by) in
     omega (arith, few, c.loop-found.invariant, c.args.input.within, c.args.input.short)
 
 pub returns-clause-most : goal.returns-clause-most
@@ -29,10 +29,10 @@ returns-clause-most c =
     let kind = kind_in c.args.self.now.choice in
     let x = search_of c.args.input in
     let ms = c.loop-found.yielded in
-    let given : MatchesFirst nfa kind x finds_next c.into_iter-found-iterator.result =
-    subst (λ s. MatchesFirst nfa kind x finds_next s) (sym c.into_iter-found-iterator.ensures.into_iter_gives)
-    c.find_iter-found-items.ensures.first in
-    omega (arith, few-matches nfa kind x ms (given ms _ c.loop-found.yielded_by), c.loop-found.invariant)
+    let given : MatchesGiven nfa kind x finds_next c.into_iter-found-iterator.result =
+    subst (λ s. MatchesGiven nfa kind x finds_next s) (sym c.into_iter-found-iterator.ensures.into_iter_gives)
+    c.find_iter-found-items.ensures.given in
+    omega (arith, few-matches nfa kind x ms (given.first ms _ c.loop-found.yielded_by), c.loop-found.invariant)
 
 pub returns-clause-matches : goal.returns-clause-matches
 returns-clause-matches c =
@@ -42,12 +42,12 @@ returns-clause-matches c =
     let ms = c.loop-found.yielded in
     let gives = c.into_iter-found-iterator.ensures.into_iter_gives in
     let same = ap (λ (s : FindMatches). s.regex.now) gives ∙ c.find_iter-found-items.ensures.same_regex in
-    let given : MatchesRun nfa kind x finds_next c.into_iter-found-iterator.result =
-    subst (λ s. MatchesRun nfa kind x finds_next s) (sym gives) c.find_iter-found-items.ensures.runs in
+    let given : MatchesGiven nfa kind x finds_next c.into_iter-found-iterator.result =
+    subst (λ s. MatchesGiven nfa kind x finds_next s) (sym gives) c.find_iter-found-items.ensures.given in
     let run = run_of_exit finds_next c.into_iter-found-iterator.result ms _ c.loop-found.yielded_by _
     c.in-None.ensures.steps in
     let all = subst (λ (xs : List Match). AreMatches nfa kind x.earliest x (map found_of xs)) run.3.0
-    ((given run.0 run.0.seen run.1).1 run.2) in
+    ((given.runs run.0 run.0.seen run.1).1 run.2) in
     let by = subst (FindsBySearches x) (sym gives) c.find_iter-found-items.ensures.searches in
     let end = by.to_end ms _ _ c.loop-found.yielded_by c.in-None.ensures.steps in
     let fact : CountsMatches x c.args.self.now c.next.new.self.regex.now c.loop-found.count = record {

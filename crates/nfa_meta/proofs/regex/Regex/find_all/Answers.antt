@@ -1,6 +1,6 @@
 -- It allocates only if there was a match.
 use Rattle.nfa_paths.proofs.Common.{rules, ◌∙◌, List, ap, arith, common_steps, map, subst, sym, found_of, search_of, Match}
-use Rattle.nfa_search_base.specs.Common.{MatchesNext}
+use Rattle.nfa_search_base.specs.Common.{MatchesGiven}
 use Rattle.nfa_search_base.proofs.ListLemmas.{none-before}
 use Rattle.nfa_choice.specs.ChoiceState.{kind_in}
 use Rattle.nfa_meta.specs.Matches.{FindsBySearches, FindsGiveKept, RegexFindsOn, RegexFindsToEnd, finds_next}
@@ -13,12 +13,12 @@ returns-in_err-push-clause-lists c =
     let nfa = c.args.self.now.choice.nfa in
     let kind = kind_in c.args.self.now.choice in
     let x = search_of c.args.input in
-    let next : MatchesNext nfa kind x finds_next c.into_iter-item-iterator.result =
-    subst (λ s. MatchesNext nfa kind x finds_next s) (sym c.into_iter-item-iterator.ensures.into_iter_gives)
-    c.find_iter-item-items.ensures.next in
+    let given : MatchesGiven nfa kind x finds_next c.into_iter-item-iterator.result =
+    subst (λ s. MatchesGiven nfa kind x finds_next s) (sym c.into_iter-item-iterator.ensures.into_iter_gives)
+    c.find_iter-item-items.ensures.given in
     record {
       granted = λ none. absurd (none-before nfa kind x.earliest x c.loop-item.yielded c.in-Some.item
-          (next c.loop-item.yielded _ _ _ c.loop-item.yielded_by c.in-Some.ensures.steps) none);
+          (given.next c.loop-item.yielded _ _ _ c.loop-item.yielded_by c.in-Some.ensures.steps) none);
       all = search rules;
       disjoint = search rules;
     }

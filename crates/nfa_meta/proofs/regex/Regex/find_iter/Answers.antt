@@ -8,18 +8,13 @@ use Rattle.nfa_meta.proofs.regex.Regex.find_iter.Goals as goal
 pub returns : goal.returns
 returns c =
     let x = search_of c.args.input in
-    let given = finds-given regex_finder finds_steps x _ c.new.ensures refl in
     record {
       same_reference = refl;
       same_regex = refl;
+      given = finds-given regex_finder finds_steps x _ c.new.ensures refl;
       searches = record {
         on = finds-on regex_finder finds_steps x _ c.new.ensures refl;
         to_end = finds-to_end regex_finder finds_steps x _ c.new.ensures refl;
       };
       keeps = finds-kept regex_finder finds_steps _;
-      runs = given.runs;
-      are = given.are;
-      disjoint = given.disjoint;
-      first = given.first;
-      next = given.next;
     }

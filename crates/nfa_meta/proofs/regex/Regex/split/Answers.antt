@@ -8,7 +8,7 @@ returns c =
     record {
       same_reference = made.same_reference;
       same_regex = made.same_regex;
-      runs = (split-given made.begins).run;
+      runs = (split-given made.begins).runs;
       inside = split-inside _ _ _ made.begins;
       keeps = split-kept _;
     }

@@ -10,7 +10,7 @@ returns c =
     record {
       same_reference = made.same_reference;
       same_regex = made.same_regex;
-      runs = (splitn-given made.begins c.args.limit refl).run;
+      runs = (splitn-given made.begins c.args.limit refl).runs;
       inside = splitn-inside made.begins;
       keeps = splitn-kept _;
     }

@@ -7,15 +7,10 @@ pub returns : goal.returns
 returns c =
     let vm = c.args.self.now in
     let x = search_of c.args.input in
-    let given = finds-given vm x _ refl c.new.ensures refl in
     record {
       same_reference = refl;
       same_cache = refl;
-      runs = given.runs;
-      are = given.are;
-      disjoint = given.disjoint;
-      first = given.first;
-      next = given.next;
+      given = finds-given vm x _ refl c.new.ensures refl;
       searches = finds-searches vm x _ refl c.new.ensures refl refl;
       keeps = gives-cache _;
     }

@@ -5,15 +5,10 @@ use Rattle.nfa_search_base.proofs.MayAnswerLemmas.{sure-caught, sure-caught_disj
 use Rattle.nfa_search_base.proofs.iter.captures_matches.TryCapturesIter.infallible.Goals as goal
 
 pub returns : goal.returns
-returns g c =
-    let given = sure-caught g.F.FnMut c.args.self in
-    record {
-      can = c.requires;
-      same = refl;
-      runs = λ going. (given going).run;
-      first = λ going. (given going).first;
-      next = λ going. (given going).next;
-      all = λ going. (given going).all;
-      disjoint = λ going. sure-caught_disjoint g.F.FnMut c.args.self going c.requires;
-      list = λ h. captures-listed g.F.FnMut h _ (λ s r t st. st.0) c.args.self;
-    }
+returns g c = record {
+  can = c.requires;
+  same = refl;
+  given = sure-caught g.F.FnMut c.args.self;
+  disjoint = λ going. sure-caught_disjoint g.F.FnMut c.args.self going c.requires;
+  list = λ h. captures-listed g.F.FnMut h _ (λ s r t st. st.0) c.args.self;
+}

@@ -8,14 +8,10 @@ use Rattle.nfa_search_base.proofs.iter.found_iter.TryFoundIter.infallible.Goals 
 pub returns : goal.returns
 returns g c =
     let m = g.M.Spanned in
-    let given = sure m.value m.span g.F.FnMut c.args.self in
     record {
       can = c.requires;
       same = refl;
-      runs = λ going. (given going).run;
-      first = λ going. (given going).first;
-      next = λ going. (given going).next;
-      all = λ going. (given going).all;
+      given = sure m.value m.span g.F.FnMut c.args.self;
       disjoint = λ going. sure-disjoint m.value m.span g.F.FnMut g.met.M.Spanned.ordered c.args.self going c.requires;
       list = λ h. sure-yields (IsCallableOn g.F.FnMut) (Finds m.value g.F.FnMut) m.span m.value h c.args.self;
     }

@@ -8,16 +8,12 @@ use Rattle.nfa_search_base.proofs.iter.searcher.Searcher.into_captures_iter.Goal
 pub returns : goal.returns
 returns g c =
     let s = steps_from c.args.self (record { finder = c.args.finder; captures = c.args.captures }) in
-    let given = caught g.F.FnMut s refl in
     rw c.new.ensures (record {
       can = c.requires;
       iter_state = refl;
       finder = refl;
       going = refl;
-      runs = given.run;
-      first = given.first;
-      next = given.next;
-      all = given.all;
+      given = caught g.F.FnMut s refl;
       disjoint = caught-disjoint g.F.FnMut s refl c.requires;
       list = λ h. captures-listed g.F.FnMut h _ (λ s r t st. st) s;
     })
