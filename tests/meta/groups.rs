@@ -166,6 +166,33 @@ fn sure_steps_alone_answer_to_the_end(rt: HostRuntime) -> Result<(), Fail> {
     Ok(())
 }
 
+// If they lead to where no way goes on, nothing matches, and no engine searches.
+#[test]
+fn sure_steps_alone_tell_that_nothing_matches(rt: HostRuntime) -> Result<(), Fail> {
+    for (pattern, haystack, walks) in [
+        ("([a-z]+)=([0-9]+)$", "ab=1x", true),
+        ("([a-z]+)=([0-9]+)$", "ab=", true),
+        ("([a-z]+)=([0-9]+)$", "", true),
+        ("([a-z]+)=([0-9]+)", "ab", true),
+        ("([a-z]+)=([0-9]+)", "ab=1x", false),
+        ("(?m)([a-z]+)=([0-9]+)$", "ab", false),
+        ("(a|ab)=([0-9]+)$", "ab", false),
+    ] {
+        let config = Regex::config().hybrid(false);
+        let mut regex = Regex::builder()
+            .configure(config)
+            .build(rt.alloc(), pattern)?;
+        let matches = haystack == "ab=1x" && !pattern.ends_with('$');
+        let input = Input::new(haystack.as_bytes()).anchored(Anchored::Yes);
+        let mut slots = [NonMaxUsize::new(7); 6];
+        let found = regex.search_slots(&input, &mut slots);
+        assert_eq!(rt; found.is_some(), matches, "{pattern} {haystack}");
+        assert_eq!(rt; slots == [None; 6], !matches, "{pattern} {haystack}");
+        assert_eq!(rt; regex.ran().is_none(), walks, "{pattern} {haystack}");
+    }
+    Ok(())
+}
+
 // After enough searches whose steps are not sure, the regex no longer tries them: the answers stay the same.
 #[test]
 fn misses_turn_sure_steps_off(rt: HostRuntime) -> Result<(), Fail> {

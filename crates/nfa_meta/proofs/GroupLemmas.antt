@@ -1,6 +1,6 @@
 -- The slots that sure steps over the span of a match write, and captures that are made of slots.
 use Rattle.std.proofs.lemmas.Option.{IfSome_then}
-use Rattle.nfa_paths.proofs.Common.{◌≡◌, ◌<◌, ℕ, Bool, false, List, length, sym, subst, Option, None, Some, IfNone, IfSome, option_map, number_of, Found, PatternID, Search, MatchKind, LeftmostFirst, Automaton, IsAutomaton, IsAnswer, IsFindAnswer}
+use Rattle.nfa_paths.proofs.Common.{◌≡◌, ◌<◌, ℕ, Bool, false, List, length, replicate, sym, subst, Option, None, Some, IfNone, IfSome, option_map, number_of, Found, PatternID, Search, MatchKind, LeftmostFirst, Automaton, IsAutomaton, IsAnswer, IsFindAnswer}
 use Rattle.nfa_paths.proofs.InsideLemmas.{pattern-within, slots-within}
 use Rattle.nfa_engines.specs.SpanLaws.{cut_to}
 use Rattle.nfa_facts.specs.StatePaths.{RecordsMatchSpans}
@@ -23,14 +23,6 @@ module _ (nfa : Automaton) (kind : MatchKind) (x : Search) (slots : List (Option
       (rw first (law nfa x m (number_of p) slots valid records
       (rw first at (subst (λ (b : Bool). IsFindAnswer nfa kind b x (Some m)) latest answer)) (rw is at o))))
 
-  -- so are those that sure steps over the whole span write
-  pub whole-answers : kind ≡ LeftmostFirst → x.earliest ≡ false
-      → IfSome found (λ p. IsAnswer nfa LeftmostFirst false x (Some (number_of p)) slots)
-      → IfSome found (λ p. IsAnswer nfa kind x.earliest x (Some (number_of p)) slots)
-  whole-answers first latest answer =
-      IfSome_then found answer (λ p a.
-      subst (λ (b : Bool). IsAnswer nfa kind b x (Some (number_of p)) slots) (sym latest) (rw first a))
-
   -- they are in the span, and the pattern is one of the NFA
   pub groups-write : (old : List (Option ℕ)) → IsAutomaton nfa
       → IfSome found (λ p. IsAnswer nfa kind x.earliest x (Some (number_of p)) slots)
@@ -45,6 +37,39 @@ module _ (nfa : Automaton) (kind : MatchKind) (x : Search) (slots : List (Option
         unmatched = tt;
         pattern = pattern-within nfa kind x.earliest valid x (Some (number_of p)) slots h;
         inside = slots-within nfa kind x.earliest x (Some (number_of p)) slots h;
+      }
+
+-- The slots that sure steps over a whole span write are those of the answer, if they tell one. They are in the span, and
+-- the pattern is one of the NFA.
+module _ (nfa : Automaton) (kind : MatchKind) (x : Search) (slots : List (Option ℕ))
+    (answer : Option (Option PatternID)) where
+  pub whole-answers : kind ≡ LeftmostFirst → x.earliest ≡ false
+      → IfSome answer (λ found. IsAnswer nfa LeftmostFirst false x (option_map number_of found) slots)
+      → IfSome answer (λ found. IsAnswer nfa kind x.earliest x (option_map number_of found) slots)
+  whole-answers first latest told =
+      IfSome_then answer told (λ found a.
+      subst (λ (b : Bool). IsAnswer nfa kind b x (option_map number_of found) slots) (sym latest) (rw first a))
+
+  pub whole-writes : (old : List (Option ℕ)) → IsAutomaton nfa
+      → IfSome answer (λ found. IsAnswer nfa kind x.earliest x (option_map number_of found) slots)
+      → IfSome answer (λ found. IfNone found (slots ≡ replicate (length old) None))
+      → IfSome answer (λ found. WritesSlots nfa x found old slots)
+  whole-writes old valid told unmatched = of answer told unmatched
+    where
+      of : (o : Option (Option PatternID))
+          → IfSome o (λ found. IsAnswer nfa kind x.earliest x (option_map number_of found) slots)
+          → IfSome o (λ found. IfNone found (slots ≡ replicate (length old) None))
+          → IfSome o (λ found. WritesSlots nfa x found old slots)
+      of None a unset = tt
+      of (Some None) a unset = record {
+        unmatched = unset;
+        pattern = tt;
+        inside = slots-within nfa kind x.earliest x None slots a;
+      }
+      of (Some (Some p)) a unset = record {
+        unmatched = tt;
+        pattern = pattern-within nfa kind x.earliest valid x (Some (number_of p)) slots a;
+        inside = slots-within nfa kind x.earliest x (Some (number_of p)) slots a;
       }
 
 -- what holds of a pattern holds of its number

@@ -3,7 +3,7 @@ use Rattle.std.specs.Global.{Vec}
 use Rattle.nfa_paths.proofs.Common.{◌≡◌, ◌∙◌, ℕ, ◌≤◌, ◌<◌, ◌⊎◌, inl, inr, List, [], ◌∷◌, ◌++◌, length, refl, sym, ap, subst, arith, append-nil, append_assoc, IfSome, Option, None, Some, Bool, true, false, none-some, Automaton, Node, LeadsBelow, In, node_at, pattern_of, Look, Union, BinaryUnion, Capture, ByteRange, Sparse, Dense, Fail}
 use Rattle.thompson_nfa.specs.Automaton.Node.{Match}
 use Rattle.nfa_paths.proofs.MemberLemmas.{In-append, In-append_left, In-append_right, In-map, All-In, same_some}
-use Rattle.nfa_onepass.specs.Ways.{IsSure, Way, free_states, goal_of, here, over, written}
+use Rattle.nfa_onepass.specs.Ways.{IsDead, IsSure, Way, free_states, goal_of, here, over, written}
 use Rattle.nfa_onepass.specs.Lists.{HasEmptyList, Keeps, list_at}
 use Rattle.nfa_onepass.specs.Tables.{GoesOn, IsReached, threads_at}
 use Rattle.nfa_onepass.specs.declared.way.WayEnd.{WayEnd}
@@ -321,6 +321,14 @@ module _ (nfa : Automaton) (looks : Bool) where
             )
         | inr v ↦ absurd v.among
       ];
+    }
+
+    -- or none is there
+    pub IsUnderWay-dead : (lists : List (Vec ℕ)) → IsUnderWay lists [] None → IsDead nfa looks s byte
+    IsUnderWay-dead lists h = record {
+      none = λ r k ws w g. elim (h.covers r k ws w g) [ inl f ↦ elim (none-some f.it f.is) [ ] | inr v ↦ absurd v.among ];
+      shut = λ plain b reads r k ws w m. (h.shut plain b reads r k ws
+          (subst (λ (z : Bool). Way nfa z s ws r) (sym plain) w) m).among;
     }
 
     -- the thread on top is one of the stack

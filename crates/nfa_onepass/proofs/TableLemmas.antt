@@ -2,14 +2,14 @@
 use Rattle.std.specs.Global.{Vec}
 use Rattle.nfa_paths.proofs.Common.{◌≡◌, ◌∙◌, ℕ, zero, suc, ◌+◌, ◌*◌, ◌<◌, ◌≤◌, ◌⊎◌, inl, inr, List, [], ◌∷◌, ◌++◌, replicate, slice_get, slice_set, slice_index_or, get_or, get_or_from_slice_get, slice_get-get_or, none-some, refl, sym, ap, subst, arith, length, length-append, length-set, Bool, false, cases_Bool, slice_get_within, Option, None, Some, option_map, Automaton, Search, Slots, byte_at, start_state, length-replicate}
 use Rattle.nfa_paths.proofs.MemberLemmas.{same_some}
-use Rattle.nfa_onepass.specs.Ways.{HasOnlyEnds, IsOnWay, IsOnly, IsSure, IsWhole, write_each}
+use Rattle.nfa_onepass.specs.Ways.{HasOnlyEnds, IsDead, IsNowhere, IsOnWay, IsOnly, IsSure, IsWhole, write_each}
 use Rattle.nfa_onepass.specs.Lists.{HasEmptyList, Keeps, list_at}
-use Rattle.nfa_onepass.specs.Tables.{IsFor, IsFresh, IsStep, IsWalking, KeepsRows, Takes, byte_of, limit_of, looks_over, memory_of, state_at}
+use Rattle.nfa_onepass.specs.Tables.{IsCell, IsFor, IsFresh, IsStep, IsWalking, KeepsRows, Takes, byte_of, limit_of, looks_over, memory_of, state_at}
 use Rattle.nfa_onepass.specs.declared.table.Cell.{Cell}
 use Rattle.nfa_onepass.specs.declared.table.OnePass.{OnePass}
 use Rattle.nfa_onepass.specs.declared.table.Row.{Row}
 use Rattle.nfa_onepass.specs.declared.table.Setup.{Setup}
-use Rattle.nfa_onepass.proofs.WayLemmas.{Covers, Covers-all, Covers-none, IsOnWay-first, IsOnWay-step, IsOnly-end, IsReachedFrom-first, IsReachedFrom-step, IsWhole-end, length-write_each}
+use Rattle.nfa_onepass.proofs.WayLemmas.{Covers, Covers-all, Covers-none, IsOnWay-first, IsOnWay-step, IsOnly-end, IsNowhere-dead, IsReachedFrom-first, IsReachedFrom-step, IsWhole-end, length-write_each}
 
 pub Keeps-refl : (lists : List (Vec ℕ)) → Keeps lists lists
 Keeps-refl lists = record { longer = omega arith; same = λ i inside. refl }
@@ -76,6 +76,15 @@ IsWalking-takes nfa x old new row b at slots after next own same h e t =
           (subst (λ (z : Bool). IsSure nfa z h.state (Some b) t.to t.written) plain t.sure) (t.shut plain);
     }
 
+-- if no way leads on from where the walk is, nothing matches
+pub IsNowhere-walking : (nfa : Automaton) (x : Search) (t : OnePass) (row b at : ℕ) (slots : Slots) → IsFor nfa t
+    → t.setup.looks ≡ false → (h : IsWalking nfa x t row at slots) → byte_at x at ≡ Some b
+    → IsDead nfa t.setup.looks h.state (Some b) → IsNowhere nfa x
+IsNowhere-walking nfa x t row b at slots own plain h e dead =
+    IsNowhere-dead nfa x (length slots) h.first h.state at b slots
+    (subst (λ (z : Bool). Covers nfa x z at) plain (covers-for nfa x t at own (byte-inside x at b e))) h.begins h.on
+    (h.reached plain) e (subst (λ (z : Bool). IsDead nfa z h.state (Some b)) plain dead)
+
 -- the column of a byte
 pub byte_of-low : (column : ℕ) → column < 256 → byte_of column ≡ Some column
 byte_of-low = grind arith
@@ -108,13 +117,13 @@ row-is (x ∷ rows) (suc row) low = row-is rows row (omega (arith, low))
 -- the row's cell of the byte is this one, and its step is sure
 pub record HasStep (nfa : Automaton) (t : OnePass) (row b : ℕ) (cell : Cell) : Type 0 where
   pub kept : (r : Row) → slice_get t.rows.items row ≡ Some r → slice_get r.cells b ≡ Some cell
-  pub known : cell.goal < 4294967294
+  pub known : cell.goal < 4294967293
   pub low : b < 256
 
 -- a cell that is read of rows and of a haystack which are those of the table and of the search
 pub has-step : (nfa : Automaton) (x : Search) (t : OnePass) (row at : ℕ) (cell : Cell) (rows : List Row)
     (haystack : List ℕ) → rows ≡ t.rows.items → haystack ≡ x.haystack → get_or haystack at 0 < 256
-    → cell.goal < 4294967294
+    → cell.goal < 4294967293
     → ((r : Row) → slice_get rows row ≡ Some r → slice_get r.cells (get_or haystack at 0) ≡ Some cell)
     → HasStep nfa t row (get_or x.haystack at 0) cell
 has-step nfa x t row at cell rows haystack same read low known kept =
@@ -127,7 +136,7 @@ has-step nfa x t row at cell rows haystack same read low known kept =
 -- the step of such a cell
 step-of : (nfa : Automaton) (t : OnePass) (row b : ℕ) (cell : Cell) (r : Row) → IsFor nfa t → HasStep nfa t row b cell
     → slice_get t.rows.items row ≡ Some r → IsStep nfa t.rows.items t.lists.items.items t.setup.looks r.state b cell
-step-of nfa t row b cell r own has is = own.steps row b r cell is (has.kept r is) has.known
+step-of nfa t row b cell r own has is = (own.cells row b r cell is (has.kept r is)).step has.known
 
 -- such a step leads to a row
 pub step-inside : (nfa : Automaton) (t : OnePass) (row b : ℕ) (cell : Cell) → IsFor nfa t → HasStep nfa t row b cell
@@ -264,6 +273,17 @@ step-same nfa t u s column cell same more old step =
     (IsStep-keeps nfa t.rows.items u.rows.items t.lists.items.items u.lists.items.items t.setup.looks s column cell
     more old step)
 
+-- and what a cell says in the one, it says in the other
+cell-same : (nfa : Automaton) (t u : OnePass) (s column : ℕ) (cell : Cell) → SameLimits t u
+    → KeepsRows t.rows.items u.rows.items → Keeps t.lists.items.items u.lists.items.items
+    → IsCell nfa t.rows.items t.lists.items.items t.setup.looks s column cell
+    → IsCell nfa u.rows.items u.lists.items.items u.setup.looks s column cell
+cell-same nfa t u s column cell same more old it = record {
+  step = λ low. step-same nfa t u s column cell same more old (it.step low);
+  dead = λ is. subst (λ (z : Setup). IsDead nfa (looks_over z.looks (byte_of column)) s (byte_of column))
+      (sym same.setup) (it.dead is);
+}
+
 -- and the assertions of the NFA are those that the one says
 ends-same : (nfa : Automaton) (t u : OnePass) → SameLimits t u → (t.setup.looks ≡ false → HasOnlyEnds nfa)
     → u.setup.looks ≡ false → HasOnlyEnds nfa
@@ -274,41 +294,40 @@ pub IsFor-set : (nfa : Automaton) (t u : OnePass) (i column s : ℕ) (kept : Row
     → u.rows.items
     ≡ slice_set t.rows.items i (record { state = kept.state; cells = slice_set kept.cells column cell })
     → u.lists.items.items ≡ t.lists.items.items → SameLimits t u → IsFor nfa t → state_at t.rows.items i ≡ Some s
-    → (cell.goal < 4294967294 → IsStep nfa t.rows.items t.lists.items.items t.setup.looks s column cell)
+    → IsCell nfa t.rows.items t.lists.items.items t.setup.looks s column cell
     → IsFor nfa u
-IsFor-set nfa t u i column s kept cell is rows lists same h here step =
+IsFor-set nfa t u i column s kept cell is rows lists same h here it =
     let new : Row = record { state = kept.state; cells = slice_set kept.cells column cell } in
     let more : KeepsRows t.rows.items u.rows.items =
     subst (KeepsRows t.rows.items) (sym rows) (KeepsRows-set t.rows.items i column kept cell is) in
     let old : Keeps t.lists.items.items u.lists.items.items =
     subst (Keeps t.lists.items.items) (sym lists) (Keeps-refl t.lists.items.items) in
-    let carry = λ (z k : ℕ) (c : Cell). step-same nfa t u z k c same more old in
+    let carry = λ (z k : ℕ) (c : Cell). cell-same nfa t u z k c same more old in
     record {
       states = λ row z e. h.states row z (sym (state-set t.rows.items i row kept new is refl)
           ∙ ap (λ (xs : List Row). state_at xs row) (sym rows) ∙ e);
-      steps = λ row k r c e f low.
+      cells = λ row k r c e f.
           elim (set-cases t.rows.items i row new r (ap (λ (xs : List Row). slice_get xs row) (sym rows) ∙ e)) [
             | inl m ↦
                 let x_is : kept ≡ m.2.0 = is ∙ ap (λ (n : ℕ). slice_index_or t.rows.items n kept) m.0
                 ∙ get_or_from_slice_get t.rows.items row m.2.0 kept m.2.1 in
                 let there : slice_get t.rows.items row ≡ Some kept = m.2.1 ∙ ap (λ (z : Row). Some z) (sym x_is) in
                 let states_are : kept.state ≡ r.state = ap (λ (z : Row). z.state) (sym m.1) in
-                subst (λ (z : ℕ). IsStep nfa u.rows.items u.lists.items.items u.setup.looks z k c) states_are
+                subst (λ (z : ℕ). IsCell nfa u.rows.items u.lists.items.items u.setup.looks z k c) states_are
                 (elim (set-cases kept.cells column k cell c
                 (ap (λ (z : Row). slice_get z.cells k) (sym m.1) ∙ f)) [
                   | inl n ↦
                       let s_is : s ≡ kept.state = same_some s kept.state (sym here
                       ∙ ap (λ (q : ℕ). state_at t.rows.items q) m.0
                       ∙ ap (λ (o : Option Row). option_map (λ (z : Row). z.state) o) there) in
-                      let c_low : cell.goal < 4294967294 = subst (λ (z : Cell). z.goal < 4294967294) n.1 low in
                       carry kept.state k c
-                      (subst (λ (z : ℕ). IsStep nfa t.rows.items t.lists.items.items t.setup.looks z k c) s_is
-                      (subst (λ (q : ℕ). IsStep nfa t.rows.items t.lists.items.items t.setup.looks s q c) n.0
-                      (subst (λ (z : Cell). IsStep nfa t.rows.items t.lists.items.items t.setup.looks s column z)
-                      (sym n.1) (step c_low))))
-                  | inr n ↦ carry kept.state k c (h.steps row k kept c there n low)
+                      (subst (λ (z : ℕ). IsCell nfa t.rows.items t.lists.items.items t.setup.looks z k c) s_is
+                      (subst (λ (q : ℕ). IsCell nfa t.rows.items t.lists.items.items t.setup.looks s q c) n.0
+                      (subst (λ (z : Cell). IsCell nfa t.rows.items t.lists.items.items t.setup.looks s column z)
+                      (sym n.1) it)))
+                  | inr n ↦ carry kept.state k c (h.cells row k kept c there n)
                 ])
-            | inr there ↦ carry r.state k c (h.steps row k r c there f low)
+            | inr there ↦ carry r.state k c (h.cells row k r c there f)
           ];
       first = subst HasEmptyList (sym lists) h.first;
       fits = omega (arith, h.fits, same.rows, ap length rows, length-set t.rows.items i new);
@@ -341,12 +360,15 @@ IsFor-push nfa t u r s rows lists limits more_fit h fresh inside =
             | inr there ↦ h.states row z
                 (ap (λ (o : Option Row). option_map (λ (q : Row). q.state) o) there ∙ ap (λ (n : ℕ). Some n) w.2)
           ];
-      steps = λ row k q c e f low.
+      cells = λ row k q c e f.
           elim (push-cases t.rows.items row r q (ap (λ (xs : List Row). slice_get xs row) (sym rows) ∙ e)) [
             | inl same ↦
                 let none = fresh.unknown k c (ap (λ (y : Row). slice_get y.cells k) (sym same) ∙ f) in
-                absurd (omega (arith, none, low))
-            | inr there ↦ step-same nfa t u q.state k c limits more old (h.steps row k q c there f low)
+                record {
+                  step = λ low. absurd (omega (arith, none, low));
+                  dead = λ is. absurd (omega (arith, none, is));
+                }
+            | inr there ↦ cell-same nfa t u q.state k c limits more old (h.cells row k q c there f)
           ];
       first = subst HasEmptyList (sym lists) h.first;
       fits = omega (arith, more_fit, limits.rows, ap length rows, length-append t.rows.items (r ∷ []));
@@ -360,9 +382,9 @@ pub IsFor-lists : (nfa : Automaton) (t u : OnePass) → u.rows.items ≡ t.rows.
     → Keeps t.lists.items.items u.lists.items.items → SameLimits t u → IsFor nfa t → IsFor nfa u
 IsFor-lists nfa t u rows keeps same h = record {
   states = λ row z e. h.states row z (ap (λ (xs : List Row). state_at xs row) (sym rows) ∙ e);
-  steps = λ row k r c e f low. step-same nfa t u r.state k c same
+  cells = λ row k r c e f. cell-same nfa t u r.state k c same
       (λ j s g. ap (λ (xs : List Row). state_at xs j) rows ∙ g) keeps
-      (h.steps row k r c (ap (λ (xs : List Row). slice_get xs row) (sym rows) ∙ e) f low);
+      (h.cells row k r c (ap (λ (xs : List Row). slice_get xs row) (sym rows) ∙ e) f);
   first = HasEmptyList-keeps t.lists.items.items u.lists.items.items keeps h.first;
   fits = omega (arith, h.fits, same.rows, ap length rows);
   few = omega (arith, h.few, same.rows);

@@ -7,7 +7,7 @@ use Rattle.nfa_paths.proofs.StartLemmas.{resting-edges, epsilon-edges, byte_at-w
 use Rattle.nfa_paths.proofs.AnswerLemmas.{apply-slot_row}
 use Rattle.nfa_paths.proofs.FirstStartLemmas.{path-order}
 use Rattle.nfa_paths.proofs.MemberLemmas.{In-map, same_some}
-use Rattle.nfa_onepass.specs.Ways.{HasOnlyEnds, IsOnWay, IsOnly, IsOnlyEnd, IsReachedFrom, IsShut, IsSure, IsTail, IsWhole, Way, free_states, here, over, write_each, written}
+use Rattle.nfa_onepass.specs.Ways.{HasOnlyEnds, IsDead, IsNowhere, IsOnWay, IsOnly, IsOnlyEnd, IsReachedFrom, IsShut, IsSure, IsTail, IsWhole, Way, free_states, here, over, write_each, written}
 
 -- an element of a mapped list comes from one of the list
 pub In-mapped : {A B : Type 0} (f : A → B) (xs : List A) (y : B) → In y (map f xs) → (x : A) × In x xs × (y ≡ f x)
@@ -359,6 +359,35 @@ module _ (nfa : Automaton) (x : Search) where
               absurd (shut m.0 j.0 r.slots r.way j.1)
         ];
   }
+
+  -- If no way leads on from there over the byte, no path from the start leads to a Match.
+  pub IsNowhere-dead : (count s u at b : ℕ) (slots : Slots) → Covers false at → start_state nfa x.anchored ≡ Some s
+      → IsOnWay nfa x count s (u, at) slots → IsReachedFrom nfa x s (u, at) → byte_at x at ≡ Some b
+      → IsDead nfa false u (Some b) → IsNowhere nfa x
+  IsNowhere-dead count s u at b slots covers begins on from e dead = λ z m p first t.
+      let z_is : z ≡ s = same_some z s (sym first ∙ begins) in
+      let tail = subst (λ (y : ℕ). IsTail nfa x (y, x.start) m p) z_is t in
+      let low = from.late m p tail in
+      let g = on.goes_on m p tail low in
+      elim (cases_lt at m.1) [
+        | inl more ↦ let r = goes_over false g.0 u at b m covers e g.1 more in dead.none r.last r.to r.slots r.way r.reads
+        | inr less ↦
+            let r = ending false g.0 u at m covers g.1 (omega (arith, low, less)) in
+            let j = pattern-some (pattern_of (node_at nfa m.0)) t.matches in
+            dead.shut refl b refl m.0 j.0 r.slots r.way j.1
+      ]
+
+  -- Nor does one if no way leads to a Match from there at the end of the span.
+  pub IsNowhere-end : (count s u : ℕ) (slots : Slots) → start_state nfa x.anchored ≡ Some s
+      → IsOnWay nfa x count s (u, x.end) slots → IsReachedFrom nfa x s (u, x.end) → IsDead nfa true u None
+      → IsNowhere nfa x
+  IsNowhere-end count s u slots begins on from dead = λ z m p first t.
+      let z_is : z ≡ s = same_some z s (sym first ∙ begins) in
+      let tail = subst (λ (y : ℕ). IsTail nfa x (y, x.start) m p) z_is t in
+      let g = on.goes_on m p tail (from.late m p tail) in
+      let r = ending true g.0 u x.end m (Covers-all x.end) g.1 (tail-end g.0 u m g.1) in
+      let j = pattern-some (pattern_of (node_at nfa m.0)) t.matches in
+      dead.none m.0 j.0 r.slots r.way j.1
 
   -- With the step to a Match at the end of the span, the slots are those of each path that ends there.
   pub IsOnly-end : (count s u k : ℕ) (ws : List ℕ) (slots : Slots) → length slots ≡ count

@@ -1,10 +1,11 @@
 -- What sure steps over the whole span give is the answer of the search.
-use Rattle.nfa_paths.proofs.Common.{◌≡◌, ◌∙◌, ◌≤◌, ℕ, inl, inr, true, false, List, [], ◌∷◌, refl, sym, ap, subst, arith, Option, None, Some, option_and_then, Automaton, EndsWith, HeadIs, In, IsAnswer, IsScanAnswer, IsSearchAnswer, LeftmostFirst, Linked, NoRepeats, Pair, Search, edges, is_anchored, is_utf8_empty, node_at, pattern_of}
+use Rattle.nfa_paths.proofs.Common.{◌≡◌, ◌∙◌, ◌≤◌, ℕ, inl, inr, true, false, List, [], ◌∷◌, refl, sym, ap, subst, arith, Option, None, Some, option_and_then, Automaton, EndsWith, HeadIs, In, IsAnswer, IsScanAnswer, IsSearchAnswer, LeftmostFirst, Linked, NoRepeats, Pair, Search, edges, is_anchored, is_utf8_empty, length, length-replicate, node_at, pattern_of, replicate}
 use Rattle.nfa_paths.proofs.ExistenceLemmas.{search_answer-exists}
 use Rattle.nfa_paths.proofs.FirstStartLemmas.{of-start, put-linked, start-of}
 use Rattle.nfa_paths.proofs.MemberLemmas.{same_some}
 use Rattle.nfa_paths.proofs.PathToLemmas.{EndsWith-last, In-cases}
-use Rattle.nfa_onepass.specs.Ways.{IsTail, IsWhole}
+use Rattle.nfa_paths.proofs.RestartLemmas.{slot_row-none}
+use Rattle.nfa_onepass.specs.Ways.{IsNowhere, IsTail, IsWhole}
 
 module _ (edges : Pair → List Pair) (m : Pair) where
   -- the list follows edges from the pair to the last one, and has no pair twice
@@ -52,6 +53,35 @@ module _ (edges : Pair → List Pair) (m : Pair) where
           },
         )
       ]
+
+-- If no path from the start leads to a Match, the answer is that nothing matches.
+module _ (nfa : Automaton) (x : Search) (anchored : is_anchored x.anchored ≡ true) (nowhere : IsNowhere nfa x)
+    (n : ℕ) where
+  none-along : (restarts : ℕ) (path : Option (List Pair)) → IsSearchAnswer nfa LeftmostFirst false x restarts path
+      → IsScanAnswer nfa x LeftmostFirst false path → IsAnswer nfa LeftmostFirst false x None (replicate n None)
+  none-along restarts None answers scan = record {
+    restarts = restarts;
+    path = None;
+    answers = answers;
+    pattern_is = refl;
+    slots_are = ap (λ (k : ℕ). replicate {A = Option ℕ} k None) (sym (length-replicate {A = Option ℕ} n None))
+        ∙ sym (slot_row-none nfa (length (replicate {A = Option ℕ} n None)));
+  }
+  none-along restarts (Some p) answers scan =
+      let start = scan.path.start in
+      let begins = start-of nfa x start scan.path.among in
+      absurd (nowhere start.0 scan.end p begins.state_is (record {
+        head = subst (λ (v : Pair). HeadIs v p) (ap (λ (a : ℕ). (start.0, a)) (begins.tied (rw anchored refl)))
+            scan.path.head;
+        linked = scan.path.linked;
+        ends = scan.path.ends;
+        matches = scan.wanted;
+      }))
+
+  pub nowhere-answer : is_utf8_empty nfa ≡ false → IsAnswer nfa LeftmostFirst false x None (replicate n None)
+  nowhere-answer anywhere =
+      let a = search_answer-exists nfa LeftmostFirst false x in
+      none-along a.0 a.1 a.2 (rw anywhere at a.2).1
 
 module _ (nfa : Automaton) (x : Search) (k : ℕ) (slots : List (Option ℕ)) (order : x.start ≤ x.end)
     (anchored : is_anchored x.anchored ≡ true) (w : IsWhole nfa x k slots) where

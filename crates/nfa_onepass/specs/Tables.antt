@@ -6,7 +6,7 @@ use Rattle.regex_search_core.specs.Search.{Search}
 use Rattle.nfa_paths.specs.Exploring.{Slots}
 use Rattle.nfa_paths.specs.Paths.{node_at, start_state}
 use Rattle.nfa_onepass.specs.Lists.{HasEmptyList, list_at}
-use Rattle.nfa_onepass.specs.Ways.{HasOnlyEnds, IsOnWay, IsReachedFrom, IsShut, IsSure, free_states, write_each, written}
+use Rattle.nfa_onepass.specs.Ways.{HasOnlyEnds, IsDead, IsOnWay, IsReachedFrom, IsShut, IsSure, free_states, write_each, written}
 use Rattle.nfa_onepass.specs.declared.table.Cell.{Cell}
 use Rattle.nfa_onepass.specs.declared.table.OnePass.{OnePass}
 use Rattle.nfa_onepass.specs.declared.table.Row.{Row}
@@ -53,13 +53,19 @@ pub record IsStep (nfa : Automaton) (rows : List Row) (lists : List (Vec ℕ)) (
   pub leads : column < 256 → state_at rows cell.goal ≡ Some goal
   pub ends : 256 ≤ column → cell.goal ≡ goal
 
--- The table is of the NFA: each row is of one of its states, and each step that is known is sure. If its steps pass no
+-- What a cell says of the state and the column: a step that is sure, or that no way leads on, or neither.
+pub record IsCell (nfa : Automaton) (rows : List Row) (lists : List (Vec ℕ)) (looks : Bool) (s column : ℕ)
+    (cell : Cell) : Type 0 where
+  pub step : cell.goal < 4294967293 → IsStep nfa rows lists looks s column cell
+  pub dead : cell.goal ≡ 4294967293 → IsDead nfa (looks_over looks (byte_of column)) s (byte_of column)
+
+-- The table is of the NFA: each row is of one of its states, and what each cell says is so. If its steps pass no
 -- assertion, the only assertion of the NFA is that of the end of the haystack.
 pub record IsFor (nfa : Automaton) (t : OnePass) : Type 0 where
   pub states : (row s : ℕ) → state_at t.rows.items row ≡ Some s → s < length nfa.states
-  pub steps : (row column : ℕ) (r : Row) (cell : Cell) → slice_get t.rows.items row ≡ Some r
-      → slice_get r.cells column ≡ Some cell → cell.goal < 4294967294
-      → IsStep nfa t.rows.items t.lists.items.items t.setup.looks r.state column cell
+  pub cells : (row column : ℕ) (r : Row) (cell : Cell) → slice_get t.rows.items row ≡ Some r
+      → slice_get r.cells column ≡ Some cell
+      → IsCell nfa t.rows.items t.lists.items.items t.setup.looks r.state column cell
   pub first : HasEmptyList t.lists.items.items
   pub fits : length t.rows.items ≤ t.most_rows
   pub few : t.most_rows ≤ 1024

@@ -46,6 +46,11 @@ abbrev pub IsShut : Automaton → ℕ → Type 0
 IsShut nfa s =
     (r k : ℕ) (ws : List ℕ) → Way nfa false s ws r → pattern_of (node_at nfa r) ≡ Some k → ⊥
 
+-- No way from the state leads on over the byte, or without one to a Match; nor to a Match where no assertion holds.
+pub record IsDead (nfa : Automaton) (looks : Bool) (s : ℕ) (byte : Option ℕ) : Type 0 where
+  pub none : (r k : ℕ) (ws : List ℕ) → Way nfa looks s ws r → goal_of byte (node_at nfa r) ≡ Some k → ⊥
+  pub shut : looks ≡ false → (b : ℕ) → byte ≡ Some b → IsShut nfa s
+
 -- the state's assertion, if it has one, is that of the end of the haystack
 abbrev pub IsOnlyEnd : Node → Type 0
 IsOnlyEnd node = (look : looks.Look) (next : ℕ) → node ≡ Look look next → look ≡ End
@@ -95,3 +100,7 @@ module _ (nfa : Automaton) (x : Search) where
     pub path : List Pair
     pub tail : IsTail (first, x.start) end path
     pub ends : (m : Pair) (p : List Pair) → IsTail (first, x.start) m p → m.1 ≡ x.end
+
+  -- no path from the start leads to a Match
+  abbrev pub IsNowhere : Type 0
+  IsNowhere = (s : ℕ) (m : Pair) (p : List Pair) → start_state nfa x.anchored ≡ Some s → IsTail (s, x.start) m p → ⊥

@@ -1,8 +1,8 @@
 //! The table of sure steps: a row for each state that a walk came to, with a cell for each byte and one for the end.
-ghost use Rattle.std.specs.Prelude.{◌≡◌, ℕ, ◌*◌, ◌<◌, ◌≤◌, IfOk, IfSome, Some, length, min, true};
-ghost use Rattle.nfa_onepass.specs.Tables.{IsAddedIf, IsFor, IsFresh, IsReached, IsStep, KeepsRows, byte_of, limit_of};
+ghost use Rattle.std.specs.Prelude.{◌≡◌, ℕ, ◌*◌, ◌<◌, ◌≤◌, IfOk, IfSome, IsErrOf, Some, length, min, true};
+ghost use Rattle.nfa_onepass.specs.Tables.{IsAddedIf, IsCell, IsFor, IsFresh, IsReached, IsStep, KeepsRows, byte_of, limit_of};
 ghost use Rattle.nfa_onepass.specs.Tables.{looks_over, memory_of, state_at};
-ghost use Rattle.nfa_onepass.specs.Ways.{HasOnlyEnds, IsOnlyEnd};
+ghost use Rattle.nfa_onepass.specs.Ways.{HasOnlyEnds, IsDead, IsOnlyEnd};
 ghost use Rattle.thompson_nfa.specs.Automaton.{node_of};
 
 use crate::lists::{Lists, NO_SLOTS};
@@ -18,10 +18,13 @@ pub const COLUMNS: usize = 257;
 pub const END: usize = 256;
 
 /// The goal of a cell whose step is not known yet.
-pub const UNKNOWN: u32 = u32::MAX;
+const UNKNOWN: u32 = u32::MAX;
 
-/// The goal of a cell whose step is not sure. Goals of sure steps are below.
-pub const UNSURE: u32 = u32::MAX - 1;
+/// The goal of a cell whose step is not sure.
+const UNSURE: u32 = u32::MAX - 1;
+
+/// The goal of a cell over which no way leads. Goals of sure steps are below.
+pub const NOTHING: u32 = u32::MAX - 2;
 
 /// The maximum number of rows.
 const MAX_ROWS: usize = 1024;
@@ -127,6 +130,21 @@ fn fresh_row(state: StateID) -> Row
     Row {
         state,
         cells: [unknown; COLUMNS],
+    }
+}
+
+/// The cell where no step is sure, for this reason.
+fn cell_without(why: NoWay) -> Cell
+    ensures goal { 4294967293 ≤ result.goal }
+    ensures nothing { result.goal ≡ 4294967293 → why ≡ NoWay.Nothing }
+{
+    let goal = match why {
+        NoWay::Nothing => NOTHING,
+        NoWay::Unsure | NoWay::Match => UNSURE,
+    };
+    Cell {
+        goal,
+        list: NO_SLOTS,
     }
 }
 
@@ -253,8 +271,8 @@ impl OnePass {
     #[inline(always)]
     pub(crate) fn known(&self, nfa: &NFA, row: u32, column: usize) -> Option<Cell>
         requires own { IsFor nfa.now self.now }
-        ensures { IfSome result (λ cell. (s : ℕ) → state_at self.now.rows.items row ≡ Some s → cell.goal < 4294967294
-            → IsStep nfa.now self.now.rows.items self.now.lists.items.items self.now.setup.looks s column cell) }
+        ensures { IfSome result (λ cell. (s : ℕ) → state_at self.now.rows.items row ≡ Some s
+            → IsCell nfa.now self.now.rows.items self.now.lists.items.items self.now.setup.looks s column cell) }
     {
         let kept = self.rows.get(row as usize)?;
         let cell = kept.cells.get(column)?;
@@ -263,80 +281,81 @@ impl OnePass {
 
     /// The step from the row over the column, if it is sure.
     #[inline(always)]
-    pub(crate) fn cell(&mut self, nfa: &NFA, row: u32, column: usize) -> Option<Cell>
+    pub(crate) fn cell(&mut self, nfa: &NFA, row: u32, column: usize) -> Result<Cell, NoWay>
         requires own { IsFor nfa.now self.old }
         requires column { column < 257 }
         ensures own { IsFor nfa.now self.new }
         ensures keeps { KeepsRows self.old.rows.items self.new.rows.items }
         ensures setup { self.new.setup ≡ self.old.setup }
         ensures step { (s : ℕ) → state_at self.old.rows.items row ≡ Some s
-            → IfSome result
+            → IfOk result
             (IsStep nfa.now self.new.rows.items self.new.lists.items.items self.new.setup.looks s column) }
+        ensures nothing { (s : ℕ) → state_at self.old.rows.items row ≡ Some s → IsErrOf result NoWay.Nothing
+            → IsDead nfa.now (looks_over self.old.setup.looks (byte_of column)) s (byte_of column) }
     {
-        let cell = self.known(nfa, row, column)?;
-        if cell.goal < UNSURE {
-            return Some(cell);
+        let Some(cell) = self.known(nfa, row, column) else {
+            return Err(NoWay::Unsure);
+        };
+        if cell.goal < NOTHING {
+            return Ok(cell);
         }
-        if cell.goal == UNSURE {
-            return None;
+        match cell.goal {
+            NOTHING => Err(NoWay::Nothing),
+            UNSURE => Err(NoWay::Unsure),
+            _ => self.fill(nfa, row, column),
         }
-        let sid = self.state_of(row)?;
-        self.fill(nfa, sid, row, column)
     }
 
-    /// Finds the step from the row of the state over the column, and keeps it.
+    /// Finds the step from the row over the column, and keeps it.
     #[cold]
     #[inline(never)]
-    fn fill(&mut self, nfa: &NFA, sid: StateID, row: u32, column: usize) -> Option<Cell>
+    fn fill(&mut self, nfa: &NFA, row: u32, column: usize) -> Result<Cell, NoWay>
         requires own { IsFor nfa.now self.old }
-        requires here { state_at self.old.rows.items row ≡ Some sid }
         requires column { column < 257 }
         ensures own { IsFor nfa.now self.new }
         ensures keeps { KeepsRows self.old.rows.items self.new.rows.items }
         ensures setup { self.new.setup ≡ self.old.setup }
-        ensures step { IfSome result
-            (IsStep nfa.now self.new.rows.items self.new.lists.items.items self.new.setup.looks sid column) }
+        ensures step { (s : ℕ) → state_at self.old.rows.items row ≡ Some s
+            → IfOk result
+            (IsStep nfa.now self.new.rows.items self.new.lists.items.items self.new.setup.looks s column) }
+        ensures nothing { (s : ℕ) → state_at self.old.rows.items row ≡ Some s → IsErrOf result NoWay.Nothing
+            → IsDead nfa.now (looks_over self.old.setup.looks (byte_of column)) s (byte_of column) }
     {
-        let Some(reached) = self.find_way(nfa, sid, column) else {
-            let unsure = Cell {
-                goal: UNSURE,
-                list: NO_SLOTS,
-            };
-            self.keep(nfa, sid, row, column, unsure);
-            return None;
+        let Some(sid) = self.state_of(row) else {
+            return Err(NoWay::Unsure);
         };
-        let cell = self.cell_to(nfa, sid, column, reached)?;
+        let reached = match self.find_way(nfa, sid, column) {
+            Ok(reached) => reached,
+            Err(why) => {
+                self.keep(nfa, sid, row, column, cell_without(why));
+                return Err(why);
+            }
+        };
+        let Some(cell) = self.cell_to(nfa, sid, column, reached) else {
+            return Err(NoWay::Unsure);
+        };
         self.keep(nfa, sid, row, column, cell);
-        Some(cell)
+        Ok(cell)
     }
 
     /// Searches for the only way from the state over the column.
-    fn find_way(&mut self, nfa: &NFA, sid: StateID, column: usize) -> Option<WayEnd>
+    fn find_way(&mut self, nfa: &NFA, sid: StateID, column: usize) -> Result<WayEnd, NoWay>
         requires own { IsFor nfa.now self.old }
         requires state { sid < length nfa.now.states }
         requires column { column < 257 }
         ensures own { IsFor nfa.now self.new }
         ensures rows { self.new.rows ≡ self.old.rows }
         ensures setup { self.new.setup ≡ self.old.setup }
-        ensures reached { IfSome result (IsReached nfa.now self.new.lists.items.items
+        ensures reached { IfOk result (IsReached nfa.now self.new.lists.items.items
             (looks_over self.old.setup.looks (byte_of column)) sid (byte_of column)) }
+        ensures nothing { IsErrOf result NoWay.Nothing
+            → IsDead nfa.now (looks_over self.old.setup.looks (byte_of column)) sid (byte_of column) }
     {
         let looks = column == END || self.setup.looks;
-        match only_way(
-            nfa,
-            &mut self.lists,
-            &mut self.stack,
-            sid,
-            byte_of(column),
-            looks,
-        ) {
-            Ok(reached) => Some(reached),
-            Err(NoWay::Unsure) => None,
-            Err(NoWay::Match) => {
-                self.may_answer = false;
-                None
-            }
-        }
+        let byte = byte_of(column);
+        let found = only_way(nfa, &mut self.lists, &mut self.stack, sid, byte, looks);
+        self.may_answer &= !matches!(found, Err(NoWay::Match));
+        found
     }
 
     /// The cell of a step from the state that leads there. Without room for a row there is none.
@@ -350,6 +369,7 @@ impl OnePass {
         ensures setup { self.new.setup ≡ self.old.setup }
         ensures step { IfSome result
             (IsStep nfa.now self.new.rows.items self.new.lists.items.items self.new.setup.looks sid column) }
+        ensures small { IfSome result (λ cell. cell.goal < 4294967293) }
     {
         if column == END {
             return Some(Cell {
@@ -368,13 +388,12 @@ impl OnePass {
         })
     }
 
-    /// Keeps a cell of the row of the state: a step, or that there is none that is sure.
+    /// Keeps a cell of the row of the state.
     fn keep(&mut self, nfa: &NFA, sid: StateID, row: u32, column: usize, cell: Cell)
         requires own { IsFor nfa.now self.old }
         requires here { state_at self.old.rows.items row ≡ Some sid }
         requires column { column < 257 }
-        requires step { cell.goal < 4294967294
-            → IsStep nfa.now self.old.rows.items self.old.lists.items.items self.old.setup.looks sid column cell }
+        requires cell { IsCell nfa.now self.old.rows.items self.old.lists.items.items self.old.setup.looks sid column cell }
         ensures own { IsFor nfa.now self.new }
         ensures keeps { KeepsRows self.old.rows.items self.new.rows.items }
         ensures setup { self.new.setup ≡ self.old.setup }

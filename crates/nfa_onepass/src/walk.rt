@@ -1,17 +1,19 @@
 //! The walk over a span.
-ghost use Rattle.std.specs.Prelude.{◌≡◌, ◌<◌, ◌≤◌, IfSome, None, Some, false, length, replicate, slice_get, true, ℕ};
+ghost use Rattle.std.specs.Prelude.{◌≡◌, ◌<◌, ◌≤◌, IfNone, IfOk, IfSome, IsErrOf, None, Some, false, length, option_map};
+ghost use Rattle.std.specs.Prelude.{replicate, slice_get, true, ℕ};
 ghost use Rattle.regex_search_core.specs.Search.{is_anchored, search_of};
 ghost use Rattle.regex_search_core.specs.declared.search.MatchKind.TheVariants.{LeftmostFirst};
-ghost use Rattle.nfa_paths.specs.Paths.{IsAnswer, is_utf8_empty};
+ghost use Rattle.nfa_paths.specs.Paths.{IsAnswer, is_utf8_empty, start_state};
 ghost use Rattle.regex_search_core.specs.PatternSets.{number_of};
 ghost use Rattle.nfa_paths.specs.Exploring.{Slots};
-ghost use Rattle.nfa_onepass.specs.Ways.{IsOnly, IsWhole, write_each};
+ghost use Rattle.nfa_onepass.specs.Ways.{IsDead, IsNowhere, IsOnly, IsWhole, write_each};
 ghost use Rattle.nfa_onepass.specs.Lists.{HasEmptyList, list_at};
 ghost use Rattle.nfa_onepass.specs.Tables.{IsFor, IsWalking, Takes, limit_of, state_at};
 ghost use Rattle.nfa_onepass.specs.declared.table.Row.{Row};
 
 use crate::lists::NO_SLOTS;
-use crate::table::{Cell, END, OnePass, Row, UNSURE, has_only_ends};
+use crate::table::{Cell, END, NOTHING, OnePass, Row, has_only_ends};
+use crate::way::NoWay;
 use nfa_scan_core::starts::start_state;
 use nfa_scan_core::transitions::byte_at;
 use regex_search_core::{Input, NonMaxUsize, PatternID};
@@ -103,14 +105,15 @@ impl OnePass {
             return None;
         }
         self.refresh(nfa);
-        let found = self.walk_span(nfa, input, slots);
+        let found = self.walk_span(nfa, input, slots).ok();
         self.count(found.is_some());
         found
     }
 
     /// Writes the slots of the answer of a search that takes the leftmost first match and not `earliest`, and returns
     /// its pattern, if sure steps lead from the start of the span to a match at its end and no match ends before it.
-    /// Otherwise, and also if nothing matches, it returns `None`.
+    /// Returns `Some(None)`, with no slot set, if they lead to where nothing goes on: nothing matches. Otherwise it
+    /// returns `None`.
     ///
     /// Only an anchored search has such an answer, of a span that ends with the haystack, by an NFA whose only
     /// assertion, if any, is that of the end of the haystack. If the NFA can match the empty string, it must not be in
@@ -120,17 +123,25 @@ impl OnePass {
         nfa: &NFA,
         input: &Input<'_>,
         slots: &mut [Option<NonMaxUsize>],
-    ) -> Option<PatternID>
+    ) -> Option<Option<PatternID>>
         requires own { IsFor nfa.now self.old }
         ensures own { IsFor nfa.now self.new }
         ensures limit { limit_of self.new ≡ limit_of self.old }
-        ensures answer { let x = search_of input.now in IfSome result (λ p.
-            IsAnswer nfa.now LeftmostFirst false x (Some (number_of p)) slots.new) }
+        ensures answer { let x = search_of input.now in IfSome result (λ found.
+            IsAnswer nfa.now LeftmostFirst false x (option_map number_of found) slots.new) }
+        ensures unmatched { IfSome result (λ found. IfNone found (slots.new ≡ replicate (length slots.old) None)) }
     {
         if !is_whole(nfa, input) || !self.answers_alone(nfa) {
             return None;
         }
-        let found = self.walk_span(nfa, input, slots)?;
+        let found = match self.walk_span(nfa, input, slots) {
+            Ok(pattern) => Some(pattern),
+            Err(NoWay::Nothing) => {
+                unset(slots);
+                None
+            }
+            Err(NoWay::Unsure | NoWay::Match) => return None,
+        };
         self.count(true);
         Some(found)
     }
@@ -183,31 +194,49 @@ impl OnePass {
         };
     }
 
-    /// The same for a span that is not past its end.
+    /// Writes the slots of each path over the span, as [`OnePass::search_span`] does. The span is not past its end.
     fn walk_span(
         &mut self,
         nfa: &NFA,
         input: &Input<'_>,
         slots: &mut [Option<NonMaxUsize>],
-    ) -> Option<PatternID>
+    ) -> Result<PatternID, NoWay>
         requires own { IsFor nfa.now self.old }
         requires order { (search_of input.now).start ≤ (search_of input.now).end }
         ensures own { IsFor nfa.now self.new }
         ensures setup { self.new.setup ≡ self.old.setup }
-        ensures only { IfSome result (λ p. IsOnly nfa.now (search_of input.now) (number_of p) slots.new) }
+        ensures only { IfOk result (λ p. IsOnly nfa.now (search_of input.now) (number_of p) slots.new) }
         ensures whole { let x = search_of input.now in self.old.setup.looks ≡ false → x.end ≡ length x.haystack
-            → IfSome result (λ p. IsWhole nfa.now x (number_of p) slots.new) }
+            → IfOk result (λ p. IsWhole nfa.now x (number_of p) slots.new) }
+        ensures nothing { self.old.setup.looks ≡ false → IsErrOf result NoWay.Nothing
+            → IsNowhere nfa.now (search_of input.now) }
     {
-        let sid = start_state(nfa, input)?;
-        let first = self.row_of(nfa, sid)?;
+        let Some(first) = self.first_row(nfa, input) else {
+            return Err(NoWay::Unsure);
+        };
         unset(slots);
         let row = self.walk(nfa, input, first, slots)?;
         let cell = self.cell(nfa, row, END)?;
         if !self.write_list(cell.list, slots, input.end()) {
-            return None;
+            return Err(NoWay::Unsure);
         }
-        let pattern = pattern_of(cell.goal)?;
-        Some(pattern)
+        match pattern_of(cell.goal) {
+            Some(pattern) => Ok(pattern),
+            None => Err(NoWay::Unsure),
+        }
+    }
+
+    /// The row of the state that the search begins with.
+    fn first_row(&mut self, nfa: &NFA, input: &Input<'_>) -> Option<u32>
+        requires own { IsFor nfa.now self.old }
+        ensures own { IsFor nfa.now self.new }
+        ensures setup { self.new.setup ≡ self.old.setup }
+        ensures row { IfSome result (λ row.
+            (s : ℕ) × (start_state nfa.now (search_of input.now).anchored ≡ Some s)
+            × (state_at self.new.rows.items row ≡ Some s)) }
+    {
+        let sid = start_state(nfa, input)?;
+        self.row_of(nfa, sid)
     }
 
     /// Goes over the bytes of the span. Returns the row at its end.
@@ -217,23 +246,27 @@ impl OnePass {
         input: &Input<'_>,
         first: u32,
         slots: &mut [Option<NonMaxUsize>],
-    ) -> Option<u32>
+    ) -> Result<u32, NoWay>
         requires own { IsFor nfa.now self.old }
         requires order { (search_of input.now).start ≤ (search_of input.now).end }
         requires walking { IsWalking nfa.now (search_of input.now) self.old first (search_of input.now).start
             slots.old }
         ensures own { IsFor nfa.now self.new }
         ensures setup { self.new.setup ≡ self.old.setup }
-        ensures walking { IfSome result (λ row.
+        ensures walking { IfOk result (λ row.
             IsWalking nfa.now (search_of input.now) self.new row (search_of input.now).end slots.new) }
+        ensures nothing { self.old.setup.looks ≡ false → IsErrOf result NoWay.Nothing
+            → IsNowhere nfa.now (search_of input.now) }
     {
         let mut place = self.pass(nfa, input, first, input.start());
         while place.at < input.end() {
-            let byte = byte_at(input, place.at)?;
+            let Some(byte) = byte_at(input, place.at) else {
+                return Err(NoWay::Unsure);
+            };
             let row = self.step_over(nfa, place.row, byte, place.at, slots)?;
             place = self.pass(nfa, input, row, place.at + 1);
         }
-        Some(place.row)
+        Ok(place.row)
     }
 
     /// Goes over the bytes from this position on whose steps are known and write no slot. Returns the position of the
@@ -257,7 +290,7 @@ impl OnePass {
             let Some(cell) = cell_of(rows, row, haystack[at]) else {
                 break;
             };
-            if cell.list != NO_SLOTS || cell.goal >= UNSURE {
+            if cell.list != NO_SLOTS || cell.goal >= NOTHING {
                 break;
             }
             at += 1;
@@ -325,18 +358,20 @@ impl OnePass {
         byte: u8,
         at: usize,
         slots: &mut [Option<NonMaxUsize>],
-    ) -> Option<u32>
+    ) -> Result<u32, NoWay>
         requires own { IsFor nfa.now self.old }
         requires at { at < usize.MAX }
         ensures own { IsFor nfa.now self.new }
         ensures setup { self.new.setup ≡ self.old.setup }
         ensures takes { (s : ℕ) → state_at self.old.rows.items row ≡ Some s
-            → IfSome result (Takes nfa.now self.new s byte at slots.old slots.new) }
+            → IfOk result (Takes nfa.now self.new s byte at slots.old slots.new) }
+        ensures nothing { (s : ℕ) → state_at self.old.rows.items row ≡ Some s → IsErrOf result NoWay.Nothing
+            → IsDead nfa.now self.old.setup.looks s (Some byte) }
     {
         let cell = self.cell(nfa, row, byte as usize)?;
         if !self.write_list(cell.list, slots, at) {
-            return None;
+            return Err(NoWay::Unsure);
         }
-        Some(cell.goal)
+        Ok(cell.goal)
     }
 }

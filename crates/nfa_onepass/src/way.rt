@@ -1,8 +1,8 @@
 //! The only way from a state to one that reads a byte, or to a Match.
-ghost use Rattle.std.specs.Prelude.{◌≡◌, ◌<◌, ◌≤◌, ◌++◌, ◌∷◌, [], IfOk, IfSome, None, false, length, true};
+ghost use Rattle.std.specs.Prelude.{◌≡◌, ◌<◌, ◌≤◌, ◌++◌, ◌∷◌, [], IfOk, IfSome, IsErrOf, None, false, length, true};
 ghost use Rattle.thompson_nfa.specs.Automaton.{node_of};
 ghost use Rattle.thompson_nfa.specs.Flaws.{pattern_of};
-ghost use Rattle.nfa_onepass.specs.Ways.{free_states, goal_of, written};
+ghost use Rattle.nfa_onepass.specs.Ways.{IsDead, free_states, goal_of, written};
 ghost use Rattle.nfa_onepass.specs.Lists.{HasEmptyList, Keeps, list_at};
 ghost use Rattle.nfa_onepass.specs.Tables.{GoesOn, IsReached, threads_at};
 
@@ -31,8 +31,10 @@ pub struct WayEnd {
 /// Why a search for the only way found none.
 #[derive(Clone, Copy)]
 pub enum NoWay {
-    /// There is none, or there are several, or too many states to look at.
+    /// There are several, or too many states to look at, or there was no room or memory.
     Unsure,
+    /// There is none, and none to a `Match` where no assertion holds.
+    Nothing,
     /// A way leads to a `Match` where no assertion holds.
     Match,
 }
@@ -132,6 +134,7 @@ pub fn only_way(
     ensures keeps { Keeps lists.old.items.items lists.new.items.items }
     ensures most { lists.new.most ≡ lists.old.most }
     ensures reached { IfOk result (IsReached nfa.now lists.new.items.items looks sid byte) }
+    ensures nothing { IsErrOf result NoWay.Nothing → IsDead nfa.now looks sid byte }
 {
     stack.clear();
     if !push_each(stack, &[sid], NO_SLOTS) {
@@ -140,7 +143,7 @@ pub fn only_way(
     let mut found: Option<WayEnd> = None;
     'turns: for _ in 0..MAX_TURNS {
         let Some(thread) = stack.pop() else {
-            return found.ok_or(NoWay::Unsure);
+            return found.ok_or(NoWay::Nothing);
         };
         let state = nfa.state(thread.sid);
         match goal(state, byte) {

@@ -34,8 +34,8 @@ impl Regex {
         if !self.one_pass.is_on() {
             return self.search_window(input, slots);
         }
-        if let Some(pattern) = self.write_whole(input, slots) {
-            return Some(pattern);
+        if let Some(found) = self.write_whole(input, slots) {
+            return found;
         }
         match self.found_or_part(*input) {
             Ok(found) => match self.write_groups(input, found, slots) {
@@ -47,20 +47,23 @@ impl Regex {
     }
 
     /// Writes the slots of the answer of an anchored search whose match ends with the haystack, if each step of it is
-    /// sure and no match ends before. The lazy DFA need not find the match then.
+    /// sure and no match ends before. Returns `Some(None)` if sure steps lead to where nothing matches. The lazy DFA
+    /// need not search then.
+    #[inline(always)]
     fn write_whole(
         &mut self,
         input: &Input<'_>,
         slots: &mut [Option<NonMaxUsize>],
-    ) -> Option<PatternID>
-        ensures answer { let x = search_of input.now in IfSome result (λ p.
-            IsAnswer self.old.choice.nfa (kind_in self.old.choice) x.earliest x (Some (number_of p)) slots.new) }
-        ensures writes { IfSome result (λ _.
-            WritesSlots self.old.choice.nfa (search_of input.now) result slots.old slots.new) }
+    ) -> Option<Option<PatternID>>
+        ensures answer { let x = search_of input.now in IfSome result (λ found.
+            IsAnswer self.old.choice.nfa (kind_in self.old.choice) x.earliest x (option_map number_of found)
+            slots.new) }
+        ensures writes { IfSome result (λ found.
+            WritesSlots self.old.choice.nfa (search_of input.now) found slots.old slots.new) }
         ensures same { self.new.choice ≡ self.old.choice }
         ensures keeps { KeepsRegex self.old self.new }
     {
-        if input.get_earliest() {
+        if input.get_earliest() || !input.get_anchored().is_anchored() {
             return None;
         }
         self.one_pass

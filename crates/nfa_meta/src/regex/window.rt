@@ -124,6 +124,8 @@ impl Regex {
 
     /// Returns the match of the search, if it is anchored and the lazy DFA answers it. Rows that earlier searches made
     /// are asked first if that is wanted.
+    // Inline, so that only the callers that want it ask such rows, and a search that is not anchored costs no call.
+    #[inline(always)]
     pub(super) fn find_anchored<'h>(
         &mut self,
         input: Input<'h>,

@@ -2,12 +2,13 @@
 use Rattle.nfa_paths.proofs.Common.{◌≡◌, ◌∙◌, ◌++◌, ◌-◌, List, [], ◌∷◌, IfOk, IfSome, Result, Ok, Err, ℕ, false, is_some, ap, sym, subst, arith, take, length, Option, None, Some, option_to_list, LeadsBelow, Node, node_of, node_at, pattern_of, refl}
 use Rattle.nfa_paths.proofs.StartLemmas.{node_at-get}
 use Rattle.nfa_onepass.specs.Ways.{goal_of}
-use Rattle.std.specs.Result.{result_ok}
+use Rattle.std.specs.Global.{Vec}
+use Rattle.std.specs.Result.{IsErrOf, result_ok}
 use Rattle.nfa_onepass.specs.Tables.{IsReached, threads_at}
 use Rattle.nfa_onepass.specs.declared.way.NoWay.{NoWay}
 use Rattle.nfa_onepass.specs.declared.way.WayEnd.{WayEnd}
 use Rattle.nfa_onepass.specs.declared.way.Thread.{Thread}
-use Rattle.nfa_onepass.proofs.ClosureLemmas.{IsUnderWay, IsUnderWay-begin, IsUnderWay-ends, IsUnderWay-found, IsUnderWay-on, IsUnderWay-top}
+use Rattle.nfa_onepass.proofs.ClosureLemmas.{IsUnderWay, IsUnderWay-begin, IsUnderWay-dead, IsUnderWay-ends, IsUnderWay-found, IsUnderWay-on, IsUnderWay-top}
 use Rattle.nfa_onepass.proofs.TableLemmas.{Keeps-refl, Keeps-trans}
 use Rattle.nfa_onepass.proofs.way.only_way.Goals as goal
 use Rattle.nfa_onepass.proofs.way.only_way.Goals.{in-Some-goal+else-is_some, in-None+else-matches_plainly+else-not-go_on}
@@ -17,19 +18,34 @@ ok-of : (P : WayEnd → Type 0) (r : Result WayEnd NoWay) → IfSome (result_ok 
 ok-of P (Ok end) h = h
 ok-of P (Err why) h = tt
 
+-- if the result is an error, nothing was found
+none-found : (found : Option WayEnd) (r : Result WayEnd NoWay) (why : NoWay) → result_ok r ≡ found → IsErrOf r why
+    → found ≡ None
+none-found found r why ok err = sym ok ∙ ap result_ok err
+
+-- a stack that gave none is empty
+no-thread : (old new : Vec Thread) (o : Option Thread) → o ≡ None → new.items ≡ take (old.len - 1) old.items
+    → old.items ≡ new.items ++ option_to_list o → old.len ≡ 0 → old.items ≡ []
+no-thread old new o none rest items over =
+    let less : old.len - 1 ≡ 0 = omega (arith, over) in
+    let empty : new.items ≡ [] = rest ∙ ap (λ (n : ℕ). take n old.items) less in
+    items ∙ ap (λ (z : Option Thread). new.items ++ option_to_list z) none ∙ ap (λ (ts : List Thread). ts ++ []) empty
+
 pub returns-in_default-clause-reached : goal.returns-in_default-clause-reached
 returns-in_default-clause-reached c =
-    let waiting = c.turns.stack in
-    let over = rw c.in_default.is at c.pop.ensures.cases in
-    let less : waiting.len - 1 ≡ 0 = omega (arith, over.0) in
-    let empty : c.pop.new.self.items ≡ [] =
-    c.pop.ensures.rest ∙ ap (λ (n : ℕ). take n waiting.items) less in
-    let none : waiting.items ≡ [] =
-    c.pop.ensures.items ∙ ap (λ (o : Option Thread). c.pop.new.self.items ++ option_to_list o) c.in_default.is
-    ∙ ap (λ (ts : List Thread). ts ++ []) empty in
+    let none = no-thread c.turns.stack c.pop.new.self c.pop.result c.in_default.is c.pop.ensures.rest
+    c.pop.ensures.items (rw c.in_default.is at c.pop.ensures.cases).0 in
     ok-of (IsReached c.args.nfa.now c.turns.lists.items.items c.args.looks c.args.sid c.args.byte) c.ok_or.result
     (rw c.ok_or.ensures.ok_part at (IsUnderWay-ends c.args.nfa.now c.args.looks c.args.sid c.args.byte
     c.turns.lists.items.items c.turns.found (rw none at c.turns.invariant.under_way)))
+
+pub returns-in_default-clause-nothing : goal.returns-in_default-clause-nothing
+returns-in_default-clause-nothing c err =
+    let none = no-thread c.turns.stack c.pop.new.self c.pop.result c.in_default.is c.pop.ensures.rest
+    c.pop.ensures.items (rw c.in_default.is at c.pop.ensures.cases).0 in
+    let nothing = none-found c.turns.found c.ok_or.result _ (sym c.ok_or.ensures.ok_part) err in
+    IsUnderWay-dead c.args.nfa.now c.args.looks c.args.sid c.args.byte c.turns.lists.items.items
+    (rw nothing at (rw none at c.turns.invariant.under_way))
 
 pub turns-init : goal.turns-init
 turns-init c =

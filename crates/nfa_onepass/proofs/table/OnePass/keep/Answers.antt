@@ -8,7 +8,7 @@ returns-clause-own c =
     IsFor-set c.args.nfa.now c.args.self.now _ c.args.row c.args.column c.args.sid c.index_mut-kept.result.now
     c.args.cell
     c.index_mut-kept.ensures.value refl refl
-    (record { rows = refl; lists = refl; setup = refl }) c.requires.own c.requires.here c.requires.step
+    (record { rows = refl; lists = refl; setup = refl }) c.requires.own c.requires.here c.requires.cell
 
 pub returns-clause-keeps : goal.returns-clause-keeps
 returns-clause-keeps c =

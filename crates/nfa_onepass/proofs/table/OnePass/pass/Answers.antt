@@ -17,7 +17,7 @@ loop-at-preserved-then-cell-row c =
     let back : cell.goal ≡ row = search (rules, c.if-cell-row.true) in
     let none : cell.list ≡ 0 = search (rules, c.if-cell-ne-NO_SLOTS.false) in
     let read : get_or c.haystack-haystack.result.now at 0 < 256 = omega arith in
-    let known : cell.goal < 4294967294 = search (rules, c.if-cell-ge-UNSURE.false) in
+    let known : cell.goal < 4294967293 = search (rules, c.if-cell-ge-NOTHING.false) in
     let has = has-step nfa x t row at cell c.as_slice-rows.result.now c.haystack-haystack.result.now
     c.as_slice-rows.ensures.value c.haystack-haystack.ensures read known c.in-Some.ensures in
     let goes : (slots : Slots) → IsWalking nfa x t c.args.first c.args.from slots
@@ -46,7 +46,7 @@ loop-at-preserved c =
     let inside : at < x.end = search (rules, c.loop-at-test.true) in
     let none : cell.list ≡ 0 = search (rules, c.if-cell-ne-NO_SLOTS.false) in
     let read : get_or c.haystack-haystack.result.now at 0 < 256 = omega arith in
-    let known : cell.goal < 4294967294 = search (rules, c.if-cell-ge-UNSURE.false) in
+    let known : cell.goal < 4294967293 = search (rules, c.if-cell-ge-NOTHING.false) in
     let has = has-step nfa x t row at cell c.as_slice-rows.result.now c.haystack-haystack.result.now
     c.as_slice-rows.ensures.value c.haystack-haystack.ensures read known c.in-Some.ensures in
     record {

@@ -16,7 +16,7 @@ loop-at-preserved c =
     let back : cell.goal ≡ row = search (rules, c.if-cell-row.false) in
     let none : cell.list ≡ 0 = search (rules, c.if-cell-ne-NO_SLOTS.false) in
     let read : get_or c.haystack-haystack.result.now at 0 < 256 = omega arith in
-    let known : cell.goal < 4294967294 =
+    let known : cell.goal < 4294967293 =
     omega (arith, back, c.requires.row, c.requires.own.fits, c.requires.own.few) in
     let has = has-step nfa x t row at cell c.as_slice-rows.result.now c.haystack-haystack.result.now
     c.as_slice-rows.ensures.value c.haystack-haystack.ensures read known c.in-Some.ensures in

@@ -1,6 +1,7 @@
 -- The step was sure, and its list was written.
-use Rattle.nfa_paths.proofs.Common.{◌<◌, refl, subst, arith, ℕ, Option}
-use Rattle.nfa_onepass.specs.Ways.{IsSure}
+use Rattle.nfa_paths.proofs.Common.{rules, ◌≡◌, ◌<◌, ap, common_steps, refl, subst, arith, ℕ, Err, Option}
+use Rattle.nfa_onepass.specs.declared.way.NoWay.TheVariants.{Nothing}
+use Rattle.nfa_onepass.specs.Ways.{IsDead, IsSure}
 use Rattle.nfa_onepass.specs.Lists.{list_at}
 use Rattle.nfa_onepass.specs.Tables.{looks_over}
 use Rattle.nfa_onepass.proofs.TableLemmas.{byte_of-low}
@@ -20,3 +21,10 @@ returns-clause-takes c s here =
       shut = λ plain. step.shut plain low;
       writes = c.if-not-write_list.ensures refl;
     }
+
+pub returns-in_err-cell-clause-nothing : goal.returns-in_err-cell-clause-nothing
+returns-in_err-cell-clause-nothing c s here err =
+    let low : c.args.byte < 256 = omega (arith, c.ranges.byte.fits) in
+    let why : c.in_err-cell.field-0.0 ≡ Nothing = first_of (search (rules, err), grind (arith, common_steps, err)) in
+    subst (λ (o : Option ℕ). IsDead c.args.nfa.now (looks_over c.args.self.now.setup.looks o) s o)
+    (byte_of-low c.args.byte low) (c.in_err-cell.ensures.nothing s here (ap Err why))
