@@ -65,9 +65,15 @@ impl Regex {
     }
 
     /// Returns the match of a search, if the lazy DFA finds one at this start, before which nothing matches. Returns
-    /// `Some(None)` if it finds none there, and `None` if it has no answer.
+    /// `Some(None)` if it finds none there, and `None` if it has no answer. Known rows are asked first if that is
+    /// wanted.
     #[inline(always)]
-    pub(super) fn find_at_start<'h>(&mut self, input: Input<'h>, at: usize) -> Option<Option<Match>>
+    pub(super) fn find_at_start<'h>(
+        &mut self,
+        input: Input<'h>,
+        at: usize,
+        known: bool,
+    ) -> Option<Option<Match>>
         requires anywhere { StartsAnywhere self.old.choice.nfa (search_of input) }
         requires last { (search_of input).earliest ≡ false }
         requires first { IsFirstStart self.old.choice.nfa (search_of input) at }
@@ -85,7 +91,7 @@ impl Regex {
     {
         let _ = &self.dfa;
         first_start_answers();
-        self.find_anchored(input.range(at..input.end()).anchored(Anchored::Yes), false)
+        self.find_anchored(input.range(at..input.end()).anchored(Anchored::Yes), known)
     }
 
     /// Whether the match is at the first start of its search, so that the next one may be, too. After a search that

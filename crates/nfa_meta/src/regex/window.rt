@@ -174,21 +174,11 @@ impl Regex {
         ensures keeps { KeepsRegex self.old self.new }
     {
         if known {
-            if let Some(half) = self.half_by_known_rows(&input) {
+            if let Some(half) = self.dfa.known_answer(&self.cache, &input) {
                 return Ok(half);
             }
         }
         self.dfa.try_find_half(&mut self.cache, input)
-    }
-
-    /// Returns the half match of the search, if known rows of the lazy DFA lead to it. Nothing is written for it.
-    // A call of its own, so that a search which does not ask them costs no large frame.
-    #[inline(never)]
-    fn half_by_known_rows(&self, input: &Input<'_>) -> Option<Option<HalfMatch>>
-        ensures { let x = search_of input.now in IfSome result (λ half. IsHalfAnswer self.now.choice.nfa
-            (kind_in self.now.choice) x.earliest x (option_map half_found_of half)) }
-    {
-        self.dfa.known_answer(&self.cache, input)
     }
 
     /// Returns the match that [`Regex::find`] returns. It copies no input for a match at the first start.
@@ -376,7 +366,7 @@ impl Regex {
         let mut rest = input;
         let mut at = from;
         for _ in 0..TRIES {
-            if let Some(found) = self.find_at_start(rest, at)? {
+            if let Some(found) = self.find_at_start(rest, at, false)? {
                 return Some(found);
             }
             if at >= rest.end() {
@@ -403,7 +393,7 @@ impl Regex {
         let mut at = from;
         for _ in 0..TRIES {
             at = self.next_start(&input, at, input.end());
-            if let Some(found) = self.find_at_start(input, at)? {
+            if let Some(found) = self.find_at_start(input, at, true)? {
                 return Some(found);
             }
             if at >= input.end() {
