@@ -175,49 +175,25 @@ fn change_of_letters(a: u8, b: u8) -> Change
 }
 
 /// Returns the colours with a capability that has this code.
-fn with_code<'c>(colours: Colours<'c>, change: Change, code: &'c [u8]) -> Colours<'c>
+fn with_code<'c>(mut colours: Colours<'c>, change: Change, code: &'c [u8]) -> Colours<'c>
     ensures { palette_of result ≡ with_code (palette_of colours.entry) change code.entry.now }
 {
     match change {
-        Change::Matches => Colours {
-            selected_match: code,
-            near_match: code,
-            ..colours
-        },
-        Change::SelectedMatch => Colours {
-            selected_match: code,
-            ..colours
-        },
-        Change::NearMatch => Colours {
-            near_match: code,
-            ..colours
-        },
-        Change::SelectedLine => Colours {
-            selected_line: code,
-            ..colours
-        },
-        Change::NearLine => Colours {
-            near_line: code,
-            ..colours
-        },
-        Change::Name => Colours {
-            name: code,
-            ..colours
-        },
-        Change::Number => Colours {
-            number: code,
-            ..colours
-        },
-        Change::Offset => Colours {
-            offset: code,
-            ..colours
-        },
-        Change::Separator => Colours {
-            separator: code,
-            ..colours
-        },
-        Change::Reverse | Change::Keep | Change::Nothing => with_flag(colours, change),
+        Change::Matches => {
+            colours.selected_match = code;
+            colours.near_match = code;
+        }
+        Change::SelectedMatch => colours.selected_match = code,
+        Change::NearMatch => colours.near_match = code,
+        Change::SelectedLine => colours.selected_line = code,
+        Change::NearLine => colours.near_line = code,
+        Change::Name => colours.name = code,
+        Change::Number => colours.number = code,
+        Change::Offset => colours.offset = code,
+        Change::Separator => colours.separator = code,
+        Change::Reverse | Change::Keep | Change::Nothing => return with_flag(colours, change),
     }
+    colours
 }
 
 /// Returns the colours with a capability that has no code. `mt` gives matches in other lines the colour of those in

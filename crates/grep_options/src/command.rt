@@ -96,13 +96,31 @@ pub enum Command<'w> {
 /// Reads the split arguments, the first of which is the name of the program. Fails if the value of `-m` is not a
 /// number, or if allocation failed.
 pub fn parse<'w>(alloc: Global, words: &'w [&'w str]) -> Result<Command<'w>, OptionsError> {
-    // What may fail comes first, while there is no command to let go.
-    let others = words_argument(alloc)?;
-    let command = without_options(alloc).arg(others)?;
-    match with_flags(alloc, command)?.try_get_matches_from(words) {
-        Ok(matches) => Ok(Command::Search(read_matches(alloc, &matches)?)),
+    match matches_of(alloc, words)? {
+        Ok(matches) => search_of(alloc, &matches),
         Err(error) => Ok(Command::Say(error)),
     }
+}
+
+/// Returns what `clap` makes of the arguments: the values of options, or what is printed in place of a search.
+fn matches_of<'w>(
+    alloc: Global,
+    words: &'w [&'w str],
+) -> Result<Result<ArgMatches<'w>, Error>, AllocError> {
+    let command = whole_command(alloc)?;
+    Ok(command.try_get_matches_from(words))
+}
+
+/// Returns the command with its options and arguments.
+fn whole_command<'w>(alloc: Global) -> Result<clap::Command<'w>, AllocError> {
+    // What may fail comes first, while there is no command to let go.
+    let others = words_argument(alloc)?;
+    with_flags(alloc, without_options(alloc).arg(others)?)
+}
+
+/// Returns the search that these values of options ask for.
+fn search_of<'w>(alloc: Global, matches: &ArgMatches<'w>) -> Result<Command<'w>, OptionsError> {
+    Ok(Command::Search(read_matches(alloc, matches)?))
 }
 
 /// Returns the command, without its options and arguments.
@@ -186,9 +204,16 @@ fn fill_words<'w>(
     push_strs(matches, "regexp", &mut arguments.patterns)?;
     push_strs(matches, "file", &mut arguments.pattern_files)?;
     push_strs(matches, "words", &mut arguments.files)?;
-    let given = !arguments.patterns.is_empty() || !arguments.pattern_files.is_empty();
-    if !given && !arguments.files.is_empty() {
-        arguments.patterns.push(arguments.files.remove(0))?;
+    if arguments.patterns.is_empty() && arguments.pattern_files.is_empty() {
+        move_first(&mut arguments.files, &mut arguments.patterns)?;
+    }
+    Ok(())
+}
+
+/// Moves the first word, if there is one, to the others.
+fn move_first<'w>(words: &mut Vec<&'w str>, others: &mut Vec<&'w str>) -> Result<(), AllocError> {
+    if !words.is_empty() {
+        others.push(words.remove(0))?;
     }
     Ok(())
 }

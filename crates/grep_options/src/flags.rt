@@ -4,28 +4,17 @@ mod entry;
 mod printing;
 mod selecting;
 
-use crate::flags::entry::{Also, Entry, Takes, arg_of, with_each};
+use crate::flags::entry::{Entry, with_each};
 use crate::flags::printing::{COLOURS, LINES, NAMES, REPORTS};
 use crate::flags::selecting::{FILES, KINDS, LIMITS, PATTERNS};
-use clap::{Arg, Command};
+use clap::{Arg, ArgAction, Command};
 use std::alloc::{AllocError, Global};
 
 /// How many tables there are.
 const TABLES: usize = 8;
 
-/// The arguments that belong to no option: the pattern if there is no `-e` and no `-f`, and the files.
-const WORDS: Entry = Entry {
-    name: "words",
-    letter: None,
-    also: Also::NoName,
-    takes: Takes::Words("PATTERN|FILE"),
-    rivals: &[],
-    help: "The pattern, unless -e or -f is given, and the files",
-};
-
 /// Adds all options.
-pub fn with_flags<'w>(alloc: Global, command: Command<'w>) -> Result<Command<'w>, AllocError> {
-    let mut command = command;
+pub fn with_flags<'w>(alloc: Global, mut command: Command<'w>) -> Result<Command<'w>, AllocError> {
     for number in 0..TABLES {
         command = with_each(alloc, command, table(number))?;
     }
@@ -48,6 +37,15 @@ fn table(number: usize) -> &'static [Entry] {
 
 /// Returns the arguments that belong to no option. Without `-e` and `-f` there has to be one.
 pub fn words_argument<'w>(alloc: Global) -> Result<Arg<'w>, AllocError> {
-    let arg = arg_of(alloc, WORDS)?.required_unless_present("regexp")?;
-    arg.required_unless_present("file")
+    let options = ["regexp", "file"];
+    optional_words(alloc).required_unless_present_any(&options)
+}
+
+/// Returns the arguments that belong to no option: the pattern if there is no `-e` and no `-f`, and the files.
+fn optional_words<'w>(alloc: Global) -> Arg<'w> {
+    Arg::new(alloc, "words")
+        .help("The pattern, unless -e or -f is given, and the files")
+        .action(ArgAction::Append)
+        .value_name("PATTERN|FILE")
+        .num_args(0..)
 }

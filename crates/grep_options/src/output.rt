@@ -19,10 +19,7 @@ pub struct FileId {
 /// Returns whether the input of this name is a regular file to which standard output goes.
 pub fn is_output(rt: &HostRuntime, name: &str) -> bool {
     match file_at(rt, OUTPUT) {
-        Some(output) => {
-            let path = if name == "-" { INPUT } else { name };
-            file_at(rt, path) == Some(output)
-        }
+        Some(output) => file_at(rt, input_path(name)) == Some(output),
         None => false,
     }
 }
@@ -34,16 +31,25 @@ pub fn is_file_input(rt: &HostRuntime) -> bool {
 
 /// Returns how many bytes the input of this name has. None if it is not a regular file.
 pub fn input_size(rt: &HostRuntime, name: &str) -> Option<u64> {
-    match fs::metadata(rt, if name == "-" { INPUT } else { name }) {
-        Ok(metadata) if metadata.is_file() => Some(metadata.len()),
-        _ => None,
-    }
+    let metadata = regular_file(rt, input_path(name))?;
+    Some(metadata.len())
+}
+
+/// Returns the path of the input of this name.
+fn input_path(name: &str) -> &str {
+    if name == "-" { INPUT } else { name }
 }
 
 /// Returns which regular file is at the path. There is none if something else is there.
 fn file_at(rt: &HostRuntime, path: &str) -> Option<FileId> {
+    let metadata = regular_file(rt, path)?;
+    Some(id_of(&metadata))
+}
+
+/// Returns the properties of the regular file at the path. There are none if something else is there.
+fn regular_file(rt: &HostRuntime, path: &str) -> Option<Metadata> {
     match fs::metadata(rt, path) {
-        Ok(metadata) if metadata.is_file() => Some(id_of(&metadata)),
+        Ok(metadata) if metadata.is_file() => Some(metadata),
         _ => None,
     }
 }

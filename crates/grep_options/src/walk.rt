@@ -21,10 +21,7 @@ pub enum Kind {
 
 /// Returns whether the path is that of a folder, or of a link to one.
 pub fn is_folder(rt: &HostRuntime, path: &str) -> bool {
-    match fs::metadata(rt, path) {
-        Ok(metadata) => metadata.is_dir(),
-        Err(_) => false,
-    }
+    matches!(kind_of(rt, path, true), Ok(Kind::Folder))
 }
 
 /// Returns what is at the path, or if links are followed, at the end of the link there.
@@ -90,6 +87,11 @@ fn read_names(rt: &HostRuntime, folder: &str, names: &mut Vec<u8>) -> io::Result
     let mut inside = String::from_str(rt.alloc(), folder)?;
     inside.push('/')?;
     let mut held = rt.open_dir(inside.as_str())?;
+    read_all(&mut held, names)
+}
+
+/// Appends the names that are read from an open folder.
+fn read_all<R: Read>(held: &mut R, names: &mut Vec<u8>) -> io::Result<()> {
     let mut buffer = [0u8; HELD];
     for _ in 0..u64::MAX {
         let len = held.read(&mut buffer)?;
@@ -105,11 +107,16 @@ fn read_names(rt: &HostRuntime, folder: &str, names: &mut Vec<u8>) -> io::Result
 fn paths_of(alloc: Global, folder: &str, names: &[u8]) -> Result<Vec<String>, AllocError> {
     let mut paths = Vec::new(alloc);
     for name in names.split(|byte| *byte == 0) {
-        if !(name.is_empty() || name == b".".as_slice() || name == b"..".as_slice()) {
+        if is_inside(name) {
             paths.push(path_of(alloc, folder, name)?)?;
         }
     }
     Ok(paths)
+}
+
+/// Returns whether the name is that of something in a folder, and not of the folder or the one above it.
+fn is_inside(name: &[u8]) -> bool {
+    !matches!(name, [] | [b'.'] | [b'.', b'.'])
 }
 
 /// Returns the path of this name in the folder.

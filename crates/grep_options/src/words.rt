@@ -45,20 +45,19 @@ pub fn split<'w>(alloc: Global, words: &[&'w str]) -> Result<Vec<&'w str>, Alloc
 
 /// Appends the argument, split if it has an attached pattern, and returns what the next one may be.
 fn push_word<'w>(next: Next, word: &'w str, split: &mut Vec<&'w str>) -> Result<Next, AllocError> {
+    if matches!(next, Next::Any) && word.starts_with('-') && !word.starts_with("--") {
+        return push_letters(word, split);
+    }
+    split.push(word)?;
+    Ok(after_word(next, word))
+}
+
+/// Returns what the next argument may be after one that is appended whole.
+fn after_word(next: Next, word: &str) -> Next {
     match next {
-        Next::Any if word.starts_with('-') && !word.starts_with("--") => push_letters(word, split),
-        Next::Any => {
-            split.push(word)?;
-            Ok(after_whole(word))
-        }
-        Next::Value => {
-            split.push(word)?;
-            Ok(Next::Any)
-        }
-        Next::Word => {
-            split.push(word)?;
-            Ok(Next::Word)
-        }
+        Next::Any => after_whole(word),
+        Next::Value => Next::Any,
+        Next::Word => Next::Word,
     }
 }
 
@@ -75,25 +74,41 @@ fn after_whole(word: &str) -> Next {
 
 /// Returns whether the argument is one of the long options with a value, or the beginning of one.
 fn begins_valued(word: &str) -> bool {
-    word.starts_with("--") && VALUED.iter().any(|name| name.starts_with(word))
+    word.starts_with("--") && begins_one(word, VALUED)
+}
+
+/// Returns whether the word is one of these names, or the beginning of one.
+fn begins_one(word: &str, names: &[&str]) -> bool {
+    for name in names {
+        if name.starts_with(word) {
+            return true;
+        }
+    }
+    false
 }
 
 /// Appends letters after one hyphen. The pattern, if one is attached there, is an argument of its own.
 fn push_letters<'w>(word: &'w str, split: &mut Vec<&'w str>) -> Result<Next, AllocError> {
     if let Some(number) = number_in(word) {
-        split.push("-C")?;
-        split.push(number)?;
+        split.extend_from_slice(&["-C", number])?;
         return Ok(Next::Any);
     }
-    let Some((flags, value)) = word.split_once('e') else {
-        split.push(word)?;
-        return Ok(after_letters(word));
-    };
-    // What comes after the letter of another option with a value is that value.
-    if has_other(flags) {
-        split.push(word)?;
-        return Ok(after_letters(word));
+    match word.split_once('e') {
+        // What comes after the letter of another option with a value is that value.
+        Some((flags, value)) if !has_other(flags) => push_pattern(flags, value, split),
+        _ => {
+            split.push(word)?;
+            Ok(after_letters(word))
+        }
     }
+}
+
+/// Appends a hyphen and the letters before that of `-e`, if there are some, then `-e`, and the pattern if one is there.
+fn push_pattern<'w>(
+    flags: &'w str,
+    value: &'w str,
+    split: &mut Vec<&'w str>,
+) -> Result<Next, AllocError> {
     if flags != "-" {
         split.push(flags)?;
     }
