@@ -176,7 +176,7 @@ fn sure_steps_alone_tell_that_nothing_matches(rt: HostRuntime) -> Result<(), Fai
         ("([a-z]+)=([0-9]+)", "ab", true),
         ("([a-z]+)=([0-9]+)", "ab=1x", false),
         ("(?m)([a-z]+)=([0-9]+)$", "ab", false),
-        ("(a|ab)=([0-9]+)$", "ab", false),
+        ("(a*)(a*)b$", "aac", false),
     ] {
         let config = Regex::config().hybrid(false);
         let mut regex = Regex::builder()
