@@ -1,6 +1,8 @@
 //! Callers of a regex: of one that is made of the text of a pattern, and of captures that are lent.
-ghost use Rattle.std.specs.Prelude.{IfOk, map};
+ghost use Rattle.std.specs.Prelude.{◌≡◌, ◌+◌, ◌*◌, ◌≤◌, IfOk, map};
 ghost use Rattle.nfa_engines.specs.Found.{found_of};
+ghost use Rattle.nfa_engines.specs.Paths.{span_len};
+ghost use Rattle.nfa_engines.specs.Search.{search_of};
 ghost use Rattle.callers.specs.Texts.{AreGroupSpans, AreMatchesOf};
 
 use anyhow::Result;
@@ -35,4 +37,20 @@ pub fn group_spans(
         spans.push(captures.get_group(group))?;
     }
     Ok(spans)
+}
+
+/// Returns the number of matches. Besides the scans of the lazy DFA, the PikeVM makes at most two for each byte of the
+/// span, and three more.
+pub fn count_matches(regex: &mut Regex, input: Input<'_>) -> usize
+    ensures { regex.new.choice.pike.all_scans
+        ≤ regex.old.choice.pike.all_scans + (2 * span_len (search_of input.entry) + 3) }
+{
+    regex.count(input)
+}
+
+/// Returns whether nothing matches. If the lazy DFA does not stop, no other engine searches.
+pub fn is_clean(regex: &mut Regex, text: &[u8]) -> bool
+    ensures { regex.new.stops ≡ regex.old.stops → regex.new.choice ≡ regex.old.choice }
+{
+    !regex.is_match(Input::new(text))
 }

@@ -80,7 +80,7 @@ impl BoundedBacktracker {
             (OksAreAll self.now (search_of input.entry)) result }
         ensures inside { RunsInside (search_of input.entry) result }
         ensures disjoint { RunsDisjoint (search_of input.entry) result }
-        // They are refused by the length of the span.
+        // A span that is too long gives one refusal and no match; after any other, the only error is want of memory.
         ensures by_length { GivenByLength self.now (search_of input.entry) result }
         // The cache changes only by the searches of the steps.
         ensures searches { FindsBySearches self.now (search_of input.entry) result }

@@ -1,9 +1,9 @@
 -- An engine over two others as a value, and the rule that picks one of the two for a search.
-use Rattle.std.specs.Prelude.{◌≡◌, ◌⊎◌, ◌+◌, ◌*◌, ◌≤◌, ℕ, List, Bool, true, false, ◌&&◌, not, nat_le, MatchBool, Option, Some, ◌-◌, ◌^◌, min}
+use Rattle.std.specs.Prelude.{◌≡◌, ◌⊎◌, ◌+◌, ◌*◌, ◌≤◌, ℕ, List, Bool, true, false, ◌&&◌, not, nat_le, MatchBool, Option, Some, ◌-◌, ◌^◌, min, unwrap_or}
 use Rattle.regex_search_core.specs.declared.search.MatchKind.TheVariants.{All}
 use Rattle.nfa_backtrack.specs.Backtrack.{Backtracker, BacktrackCache, AddsBacktrackWork, CountsAnswer, CountsRefusal, GrowsBlocks, max_haystack_len_of, memory_of}
 use Rattle.nfa_search_base.specs.Common.{Search, MatchKind, Automaton, span_len, max_scans, total_degree, IsWork, IsWithinScans, LeftmostFirst, finds}
-use Rattle.nfa_pikevm.specs.Engines.{Fits, Pike, PikeCache, AddsPikeWork, SameCapacities, kind_of, pike_memory_of}
+use Rattle.nfa_pikevm.specs.Engines.{Fits, Pike, PikeCache, AddsPikeWork, SameCapacities, pike_memory_of}
 use Rattle.nfa_pikevm.specs.Needs.{overlap_scans}
 use Rattle.nfa_choice.specs.declared.choose.Engine.{Engine}
 use Rattle.nfa_choice.specs.declared.choose.Engine.TheVariants as engine
@@ -31,7 +31,7 @@ bytes_of c = min (memory_of c.back + pike_memory_of c.pike) (2 ^ 64 - 1)
 
 -- the match kind that it searches with
 abbrev pub kind_in : ChoiceState → MatchKind
-kind_in c = kind_of (pike_of c)
+kind_in c = unwrap_or c.match_kind LeftmostFirst
 
 -- whether a search without `earliest` finds a match
 abbrev pub finds_in : ChoiceState → Search → Bool

@@ -39,8 +39,8 @@ module _ (nfa : Automaton) (kind : MatchKind) (x : Search) (slots : List (Option
         inside = slots-within nfa kind x.earliest x (Some (number_of p)) slots h;
       }
 
--- The slots that sure steps over a whole span write are those of the answer, if they tell one. They are in the span, and
--- the pattern is one of the NFA.
+-- The slots that sure steps over a whole span write are those of the answer, if they tell one. They are in the span,
+-- and the pattern is one of the NFA.
 module _ (nfa : Automaton) (kind : MatchKind) (x : Search) (slots : List (Option ℕ))
     (answer : Option (Option PatternID)) where
   pub whole-answers : kind ≡ LeftmostFirst → x.earliest ≡ false

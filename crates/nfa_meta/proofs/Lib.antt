@@ -8,6 +8,7 @@ pub mod GapLemmas
 pub mod GoesOnLemmas
 pub mod GroupLemmas
 pub mod HalvesLemmas
+pub mod ListWorkLemmas
 pub mod MatchSlotLemmas
 pub mod MatchesLemmas
 pub mod NamesLemmas

@@ -9,7 +9,6 @@ regex_self r = record {
   engines = keeps-self r.choice;
   config = refl;
   texts = refl;
-  rows = λ room. room;
   stops = omega arith;
 }
 
@@ -18,7 +17,6 @@ regex_then a b c f g = record {
   engines = keeps-then a.choice b.choice c.choice f.engines g.engines;
   config = g.config ∙ f.config;
   texts = g.texts ∙ f.texts;
-  rows = λ room. g.rows (f.rows room);
   stops = omega (arith, f.stops, g.stops);
 }
 

@@ -19,7 +19,8 @@ use Rattle.nfa_meta.proofs.RegexLemmas.{regex_self, regex_then}
 
 -- the matches that an iterator over those of x gave until `None` are all
 found-all : {nfa : Automaton} {kind : MatchKind} {x : Search} {T : Type 0} (steps : T → Option Match → T → Type 0)
-    (s : T) (ms : List Match) (t : T) → Yields steps s ms t → RunsGive steps (AreFirst nfa kind x) (AreAll nfa kind x) s → (u : T) → steps t None u
+    (s : T) (ms : List Match) (t : T) → Yields steps s ms t
+    → RunsGive steps (AreFirst nfa kind x) (AreAll nfa kind x) s → (u : T) → steps t None u
     → AreMatches nfa kind x.earliest x (map found_of ms)
 found-all {nfa} {kind} {x} steps s ms t ran runs u over =
     let run = run_of_exit steps s ms t ran u over in

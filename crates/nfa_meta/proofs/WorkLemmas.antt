@@ -1,12 +1,22 @@
--- What the lists of a regex add to the totals of both caches of its choice.
-use Rattle.nfa_paths.proofs.Common.{mul-le-mul_left, ◌≡◌, ℕ, ◌+◌, ◌≤◌, ◌⊎◌, Bool, ap, inl, inr, arith, ◌&&◌, not, Search, is_anchored, MatchKind, Automaton, span_len, total_degree}
-use Rattle.nfa_engines.specs.IterationLaws.{Totals}
+-- What searches of a regex cost the engines of its choice.
+use Rattle.nfa_paths.proofs.Common.{le-max_left, mul-le-mul_left, mul-le-mul_right, none-some, ◌≡◌, ◌∙◌, ℕ, ◌+◌, ◌≤◌, ◌⊎◌, Bool, false, ap, inl, inr, refl, subst, arith, ◌&&◌, not, None, Some, Search, is_anchored, MatchKind, Automaton, span_len, max_scan_turns, max_scans, total_degree}
+use Rattle.nfa_paths.specs.Starts.{IsUnbound, MatchesNothing}
+use Rattle.nfa_search_base.proofs.StepLemmas.{chosen}
+use Rattle.nfa_backtrack.specs.Backtrack.{HoldsNoMore}
+use Rattle.nfa_engines.specs.IterationLaws.{AddsAtMost, Totals, backtracker_totals, pike_totals}
 use Rattle.nfa_engines.proofs.EngineWorkLemmas.{Worked}
+use Rattle.nfa_engines.proofs.MatchLemmas.{half-unique}
 use Rattle.nfa_engines.proofs.ReachLemmas.{one-scan}
-use Rattle.nfa_choice.specs.ChoiceState.{ChoiceState, kind_in}
+use Rattle.nfa_choice.specs.ChoiceState.{AreWithinBounds, ChoiceState, RunsByRule, is_for_backtracker, kind_in}
 use Rattle.nfa_choice.specs.Iterations.{by_rule}
-use Rattle.nfa_choice.proofs.WorkLemmas.{DoesBy, back_in, back-runs, pike_in, pike-runs}
-use Rattle.nfa_meta.specs.WindowRuns.{IsWindowOf, by_window}
+use Rattle.nfa_choice.specs.WorkLaws.{ChoiceAddsAtMost}
+use Rattle.nfa_choice.specs.declared.choose.Engine.{Engine}
+use Rattle.nfa_choice.proofs.WorkLemmas.{Does, DoesBy, back_in, back-runs, pike_in, pike-runs}
+use Rattle.nfa_facts.proofs.PrefixLemmas.{nothing-half}
+use Rattle.nfa_meta.specs.RegexState.{KeepsRegex, RegexState}
+use Rattle.nfa_meta.specs.WindowRuns.{EndsAtMatch, IsWindowOf, RunsAfterDfa, RunsByWindow, by_window}
+use Rattle.nfa_meta.specs.Work.{WorksWithin}
+use Rattle.nfa_meta.proofs.RegexLemmas.{regex_self, regex_then}
 
 by-more : (a b c : ℕ) → a ≤ b → b ≤ c → a ≤ c
 by-more a b c less more = omega arith
@@ -53,3 +63,180 @@ back-windows = by-windows back_in back-runs
 
 pub pike-windows : DoesBy pike_in by_window
 pike-windows = by-windows pike_in pike-runs
+
+-- the work of one search is within its bounds
+does-within : (totals : ChoiceState → Totals) (y : Search) (s t : ChoiceState) → Does totals y s t
+    → AddsAtMost (max_scans s.nfa y) s.nfa y (totals s) (totals t)
+does-within totals y s t (inl w) = record {
+  scans = omega (arith, w.scans, w.bounded.scans);
+  turns = let each = mul-le-mul_right (max_scan_turns s.nfa y) w.bounded.scans in
+      omega (arith, w.turns, w.bounded.turns, each);
+}
+does-within totals y s t (inr same) = record {
+  scans = rw same (omega arith);
+  turns = rw same (omega arith);
+}
+
+-- so is that of a search by the rule, whatever its flag
+module _ (c : ChoiceState) (x : Search) (earliest : Bool) (d : ChoiceState) where
+  abbrev Within : (ChoiceState → Totals) → Type 0
+  Within totals = AddsAtMost (max_scans c.nfa x) c.nfa x (totals c) (totals d)
+
+  bounded-within : (old new : Totals) (scans turns : ℕ) → AreWithinBounds c.nfa x scans turns
+      → new.scans ≡ old.scans + scans → new.turns ≡ old.turns + turns → AddsAtMost (max_scans c.nfa x) c.nfa x old new
+  bounded-within old new scans turns bounds scanned turned = record {
+    scans = omega (arith, scanned, bounds.scans);
+    turns = let each = mul-le-mul_right (max_scan_turns c.nfa x) bounds.scans in
+        omega (arith, turned, bounds.turns, each);
+  }
+
+  rule-within : RunsByRule c x earliest d → Within back_in × Within pike_in
+  rule-within runs = elim (chosen (is_for_backtracker c x) runs) [
+    | inl p ↦ elim p.1 [
+      | inl h ↦ (
+        bounded-within (back_in c) (back_in d) d.back.scans d.back.turns h.bounded h.work.scans h.work.turns,
+        does-within pike_in x c d (inr (ap pike_totals h.pike)),
+      )
+      | inr h ↦ (
+        bounded-within (back_in c) (back_in d) d.back.scans d.back.turns h.tried_bounded h.tried.scans h.tried.turns,
+        bounded-within (pike_in c) (pike_in d) d.pike.scans d.pike.turns h.bounded h.work.scans h.work.turns,
+      )
+    ]
+    | inr p ↦ (
+      does-within back_in x c d (inr (ap backtracker_totals p.1.back)),
+      bounded-within (pike_in c) (pike_in d) d.pike.scans d.pike.turns p.1.bounded p.1.work.scans p.1.work.turns,
+    )
+  ]
+
+-- What the engines hold and name. `slots` are those that a search may add to the cache of the backtracker.
+module _ (slots : Automaton → ℕ) where
+  pub record Holds (s t : RegexState) : Type 0 where
+    pub keeps : KeepsRegex s t
+    pub holds : HoldsNoMore (slots s.choice.nfa) s.choice.back t.choice.back
+    pub ran : (t.choice ≡ s.choice) ⊎ ((engine : Engine) × (t.choice.ran ≡ Some engine))
+
+  pub holds-self : (s : RegexState) → Holds s s
+  holds-self s = record {
+    keeps = regex_self s;
+    holds = record {
+      frames = omega arith;
+      slots_kept = omega arith;
+      slots = le-max_left s.choice.back.slots (slots s.choice.nfa);
+    };
+    ran = inl refl;
+  }
+
+  pub holds-then : (a b c : RegexState) → Holds a b → Holds b c → Holds a c
+  holds-then a b c f g = record {
+    keeps = regex_then a b c f.keeps g.keeps;
+    holds =
+        let nfa = f.keeps.engines.nfa in
+        let next = subst (λ (n : Automaton). HoldsNoMore (slots n) b.choice.back c.choice.back) nfa g.holds in
+        grind (arith, f.holds, next);
+    ran = elim g.ran [
+      | inl same ↦ elim f.ran [
+        | inl before ↦ inl (same ∙ before)
+        | inr named ↦ inr (named.0, ap (λ (d : ChoiceState). d.ran) same ∙ named.1)
+      ]
+      | inr named ↦ inr named
+    ];
+  }
+
+-- the engine that ran by the rule is named
+rule-named : (c : ChoiceState) (x : Search) (earliest : Bool) (d : ChoiceState) → RunsByRule c x earliest d
+    → (engine : Engine) × (d.ran ≡ Some engine)
+rule-named c x earliest d runs = elim (chosen (is_for_backtracker c x) runs) [
+  | inl p ↦ elim p.1 [
+    | inl h ↦ (_, h.ran)
+    | inr h ↦ (_, h.ran)
+  ]
+  | inr p ↦ (_, p.1.ran)
+]
+
+-- so is the one that ran after a stop of the lazy DFA
+named-after : (x : Search) (earliest : Bool) (s t : RegexState) → RunsAfterDfa x earliest s t
+    → (t.choice ≡ s.choice) ⊎ ((engine : Engine) × (t.choice.ran ≡ Some engine))
+named-after x earliest s t (inl same) = inl same
+named-after x earliest s t (inr w) = inr (rule-named s.choice x earliest t.choice w.runs)
+
+-- so is the one that ran in a search
+pub named : (x : Search) (s t : RegexState) → RunsByWindow x s t
+    → (t.choice ≡ s.choice) ⊎ ((engine : Engine) × (t.choice.ran ≡ Some engine))
+named x s t (inl after) = named-after x x.earliest s t after
+named x s t (inr (inl w)) = inr (rule-named s.choice w.window w.window.earliest t.choice w.runs)
+named x s t (inr (inr w)) = inr (rule-named s.choice x x.earliest t.choice w.runs)
+
+-- bounds of the totals, and what the engines hold
+pub works-of : (slots : Automaton → ℕ) (scans : ℕ) (x : Search) (s t : RegexState)
+    → ChoiceAddsAtMost scans x s.choice t.choice → Holds slots s t → WorksWithin scans (slots s.choice.nfa) x s t
+works-of slots scans x s t adds h = record {
+  back_scans = adds.back.scans;
+  back_turns = adds.back.turns;
+  pike_scans = adds.pike.scans;
+  pike_turns = adds.pike.turns;
+  frames = h.holds.frames;
+  slots_kept = h.holds.slots_kept;
+  slots_held = h.holds.slots;
+  ran = h.ran;
+}
+
+-- no search costs nothing
+pub works-none : (scans slots : ℕ) (x : Search) (s : RegexState) → WorksWithin scans slots x s s
+works-none scans slots x s = record {
+  back_scans = omega arith;
+  back_turns = omega arith;
+  pike_scans = omega arith;
+  pike_turns = omega arith;
+  frames = omega arith;
+  slots_kept = omega arith;
+  slots_held = le-max_left s.choice.back.slots slots;
+  ran = inl refl;
+}
+
+-- one search
+pub search-works : (slots : Automaton → ℕ) (x : Search) (s t : RegexState) → RunsByWindow x s t
+    → HoldsNoMore (slots s.choice.nfa) s.choice.back t.choice.back → KeepsRegex s t
+    → WorksWithin (max_scans s.choice.nfa x) (slots s.choice.nfa) x s t
+search-works slots x s t runs holds keeps = works-of slots (max_scans s.choice.nfa x) x s t
+    (record {
+      back = does-within back_in x s.choice t.choice (back-windows x s t runs);
+      pike = does-within pike_in x s.choice t.choice (pike-windows x s t runs);
+    })
+    (record { keeps = keeps; holds = holds; ran = named x s t runs })
+
+-- one search for a half match
+pub half-works : (x : Search) (earliest : Bool) (s t : RegexState) → RunsAfterDfa x earliest s t
+    → HoldsNoMore 0 s.choice.back t.choice.back → KeepsRegex s t → WorksWithin (max_scans s.choice.nfa x) 0 x s t
+half-works x earliest s t runs holds keeps =
+    let held : Holds (λ nfa. 0) s t =
+    record { keeps = keeps; holds = holds; ran = named-after x earliest s t runs } in
+    elim runs [
+      | inl same ↦ works-of (λ nfa. 0) (max_scans s.choice.nfa x) x s t
+          (record {
+            back = does-within back_in x s.choice t.choice (inr (ap back_in same));
+            pike = does-within pike_in x s.choice t.choice (inr (ap pike_in same));
+          })
+          held
+      | inr ran ↦
+          let within = rule-within s.choice x earliest t.choice ran.runs in
+          works-of (λ nfa. 0) (max_scans s.choice.nfa x) x s t (record { back = within.0; pike = within.1 }) held
+    ]
+
+pub half-rests : (x : Search) (earliest : Bool) (s t : RegexState) → RunsAfterDfa x earliest s t → t.stops ≡ s.stops
+    → t.choice ≡ s.choice
+half-rests x earliest s t (inl same) still = same
+half-rests x earliest s t (inr ran) still = absurd (let more = ran.stopped in omega (arith, more, still))
+
+-- a search that has a half match matches something
+half-missed : (nfa : Automaton) (kind : MatchKind) (x y : Search) → MatchesNothing nfa x → EndsAtMatch nfa kind x y → ⊥
+half-missed nfa kind x y none ends =
+    let nothing = nothing-half nfa kind x.earliest x none in
+    none-some ends.half (half-unique nfa x kind x.earliest None (Some ends.half) nothing ends.found)
+
+-- no engine searches if the lazy DFA does not stop and nothing matches
+pub search-rests : (x : Search) (s t : RegexState) → RunsByWindow x s t → IsUnbound s.choice.nfa x → x.earliest ≡ false
+    → MatchesNothing s.choice.nfa x → t.stops ≡ s.stops → t.choice ≡ s.choice
+search-rests x s t (inl after) free last none still = half-rests x x.earliest s t after still
+search-rests x s t (inr (inl w)) free last none still =
+    absurd (half-missed s.choice.nfa (kind_in s.choice) x w.window none w.ends)
+search-rests x s t (inr (inr w)) free last none still = absurd (w.whole (record { unbound = free; last = last }))

@@ -1,24 +1,17 @@
 -- The iterator over the captures of a regex.
-use Rattle.std.specs.Prelude.{ℕ, false, List, [], Option, Result}
+use Rattle.std.specs.Prelude.{ℕ, ◌+◌, ◌*◌, false, List, [], Option, Result}
 use Rattle.std.specs.Borrow.{Bor, Fml}
 use Rattle.std.specs.Io.BufRead.{Rests}
 use mir.Syntax.{named}
-use Rattle.nfa_search_base.specs.Common.{AnswersRow, CapturesGiven, MutBor, Search, Captured, whole, WithCaptures, Row, GivesStepsWith, LendsItem, StepsWith, count_left}
+use Rattle.nfa_search_base.specs.Common.{AnswersRow, CapturesGiven, MutBor, Search, Captured, whole, span_len, GivesKept, WithCaptures, GivesStepsWith, LendsItem, StepsWith, count_left}
 use Rattle.nfa_search_base.specs.declared.error.SearchError.{SearchError}
 use Rattle.nfa_choice.specs.ChoiceState.{kind_in}
-use Rattle.nfa_choice.specs.Iterations.{CapturesLead, CapturesNextBy, CapturesOn, CapturesToEnd}
+use Rattle.nfa_choice.specs.Iterations.{CapturesNextBy}
 use Rattle.nfa_meta.specs.RegexState.{KeepsRegex, RegexState}
 use Rattle.nfa_meta.specs.WindowRuns.{by_window}
+use Rattle.nfa_meta.specs.Work.{WorksWithin}
 use Rattle.nfa_meta.specs.declared.regex.captures_iter.CapturesMatches.{CapturesMatches}
 use Rattle.nfa_meta.specs.contracts.regex.captures_iter.CapturesMatches.{the_row}
-
--- an iteration over the captures of x led from one regex to the other only by its searches, as far as it went
-abbrev pub RegexCapturesOn : Search → RegexState → RegexState → Type 0
-RegexCapturesOn = CapturesOn by_window
-
--- the same, and the iteration went to its end, past these rows
-abbrev pub RegexCapturesToEnd : Search → List Row → RegexState → RegexState → Type 0
-RegexCapturesToEnd = CapturesToEnd by_window
 
 -- the steps of the iterator, and the engine that it borrows
 abbrev pub captures_steps : CapturesMatches → StepsWith (WithCaptures (Unit {0})) RegexState
@@ -36,9 +29,10 @@ captures_next s r t = CapturesNextBy by_window captures_steps s r t
 abbrev pub CapturesGiveKept : CapturesMatches → Type 0
 CapturesGiveKept s = GivesStepsWith captures_next captures_steps KeepsRegex s
 
--- the calls change the engine only by the searches of an iteration over x
-abbrev pub CapturesBySearches : Search → CapturesMatches → Type 0
-CapturesBySearches = CapturesLead by_window captures_steps
+-- Wherever an iteration over x stops, each engine made at most two scans for each byte of the span, and three more.
+abbrev pub CapturesWorkWithin : Search → CapturesMatches → Type 0
+CapturesWorkWithin x s =
+    GivesKept captures_next (λ p q. WorksWithin (2 * span_len x + 3) 0 x p.regex.now q.regex.now) s
 
 -- its calls give the captures of the text, and keep the engine, which is r
 pub record GivesCaught (r : RegexState) (text : List ℕ) (s : CapturesMatches) : Type 0 where

@@ -22,7 +22,7 @@ pub mod Texts
 pub mod Windowed
 pub mod WindowLaws
 pub mod WindowRuns
-pub mod WorkLaws
+pub mod Work
 pub use Rattle.nfa_choice.specs.ChoiceState
 pub use Rattle.nfa_lazy_dfa.specs.Configurations
 pub use Rattle.nfa_choice.specs.HalfLists

@@ -1,20 +1,14 @@
 -- The iterator over the matches of a regex.
-use Rattle.std.specs.Prelude.{List, map, None, Option}
-use Rattle.nfa_search_base.specs.Common.{MutBor, Yields, Found, found_of, Search, Match, IsKnownFrom, WithCache, GivesStepsWith, StepsWith, GivesKept, Answer}
+use Rattle.std.specs.Prelude.{◌+◌, ◌*◌, length, List, None, Option}
+use Rattle.nfa_search_base.specs.Common.{MutBor, Yields, Found, Search, span_len, Match, IsKnownFrom, WithCache, GivesStepsWith, StepsWith, GivesKept, Answer}
 use Rattle.nfa_pikevm.specs.Finding.{IsSureOf}
-use Rattle.nfa_choice.specs.Iterations.{FindsBy, FindsNextBy, FindsOn, FindsToEnd, TellsMatch}
+use Rattle.nfa_engines.specs.IterationLaws.{list_scan_limit}
+use Rattle.nfa_choice.specs.Iterations.{FindsBy, FindsNextBy, TellsMatch}
 use Rattle.nfa_meta.specs.RegexState.{KeepsRegex, RegexState, pike_of}
 use Rattle.nfa_meta.specs.WindowRuns.{by_window}
+use Rattle.nfa_meta.specs.Work.{WorksWithin}
 use Rattle.nfa_meta.specs.declared.regex.find_iter.ByWindow.{ByWindow}
 use Rattle.nfa_meta.specs.declared.regex.find_iter.FindMatches.{FindMatches}
-
--- an iteration over the matches of x led from one regex to the other only by its searches, as far as it went
-abbrev pub RegexFindsOn : Search → RegexState → RegexState → Type 0
-RegexFindsOn = FindsOn by_window
-
--- the same, and the iteration went to its end, past these matches
-abbrev pub RegexFindsToEnd : Search → List Found → RegexState → RegexState → Type 0
-RegexFindsToEnd = FindsToEnd by_window
 
 -- the steps of the iterator, and the engine that it borrows
 abbrev pub finds_steps : FindMatches → StepsWith ByWindow RegexState
@@ -43,9 +37,11 @@ finds_next s r t = FindsNextBy AsksByWindow finds_steps s r t
 abbrev pub FindsGiveKept : FindMatches → Type 0
 FindsGiveKept s = GivesStepsWith finds_next finds_steps KeepsRegex s
 
--- The calls change the engine only by the searches of an iteration over x. At `None` the iteration went to its end,
--- past the matches so far.
-pub record FindsBySearches (x : Search) (s : FindMatches) : Type 0 where
-  pub on : GivesKept finds_next (λ p q. RegexFindsOn x p.regex.now q.regex.now) s
+-- Wherever an iteration over x stops, each engine made at most two scans for each byte of the span, and three more. At
+-- `None` they made no more than a list of the matches so far takes.
+pub record FindsWorkWithin (x : Search) (s : FindMatches) : Type 0 where
+  pub on : GivesKept finds_next (λ p q. WorksWithin (2 * span_len x + 3) (2 * length p.regex.now.choice.nfa.groups) x
+      p.regex.now q.regex.now) s
   pub to_end : (xs : List Match) (t u : FindMatches) → Yields finds_next s xs t → finds_next t None u
-      → RegexFindsToEnd x (map found_of xs) s.regex.now u.regex.now
+      → WorksWithin (list_scan_limit s.regex.now.choice.nfa x (length xs)) (2 * length s.regex.now.choice.nfa.groups) x
+      s.regex.now u.regex.now

@@ -35,11 +35,9 @@ bytes_of r = min (memory_of r.choice.back + pike_memory_of r.choice.pike + r.row
 abbrev pub HasRoom : RegexState → Type 0
 HasRoom r = (r.rows ≤ row_capacity r.config) × (r.steps ≤ step_capacity r.config)
 
--- What a search keeps: the engines of the choice, the settings and the texts. Rows and steps have room, if they had
--- before, and no stop is forgotten.
+-- What a search keeps: the engines of the choice, the settings and the texts. No stop is forgotten.
 pub record KeepsRegex (old new : RegexState) : Type 0 where
   pub engines : KeepsEngines old.choice new.choice
   pub config : new.config ≡ old.config
   pub texts : new.texts ≡ old.texts
-  pub rows : HasRoom old → HasRoom new
   pub stops : old.stops ≤ new.stops

@@ -4,9 +4,9 @@ ghost use Rattle.regex_search_core.specs.Found.{found_of, half_found_of};
 ghost use Rattle.regex_search_core.specs.PatternSets.{number_of};
 ghost use Rattle.regex_search_core.specs.Search.{search_of};
 ghost use Rattle.regex_search_core.specs.declared.search.MatchKind.TheVariants.{LeftmostFirst};
-ghost use Rattle.nfa_paths.specs.Paths.{IsAnswer, IsBoolAnswer, IsFindAnswer, IsHalfAnswer, is_utf8_empty};
+ghost use Rattle.nfa_paths.specs.Paths.{IsAnswer, IsBoolAnswer, IsFindAnswer, IsHalfAnswer, max_scans};
+ghost use Rattle.nfa_paths.specs.Starts.{IsUnbound, MatchesNothing};
 ghost use Rattle.nfa_search_base.specs.Lists.{IsInside};
-ghost use Rattle.nfa_backtrack.specs.Backtrack.{HoldsNoMore};
 ghost use Rattle.nfa_choice.specs.Answered.{WritesSlots};
 ghost use Rattle.nfa_choice.specs.ChoiceState.{finds_in, kind_in};
 ghost use Rattle.nfa_lazy_dfa.specs.Configs.{kind_in as config_kind, kind_of, nfa_of};
@@ -14,7 +14,7 @@ ghost use Rattle.nfa_lazy_dfa.specs.Limits.{capacity_in, max_clears_in};
 ghost use Rattle.nfa_lazy_dfa.specs.Rows.{capacity_of, max_clears_of};
 ghost use Rattle.nfa_meta.specs.Built.{default_settings, regex_of, unsearched};
 ghost use Rattle.nfa_meta.specs.RegexState.{HasRoom, KeepsRegex, bytes_of};
-ghost use Rattle.nfa_meta.specs.WindowRuns.{RunsAfterDfa, RunsByWindow};
+ghost use Rattle.nfa_meta.specs.Work.{WorksWithin};
 
 mod at;
 mod captures;
@@ -31,6 +31,7 @@ mod prefix;
 mod quick;
 mod replace;
 mod rewrite;
+mod runs;
 mod search;
 mod split;
 mod split_iter;
@@ -44,7 +45,6 @@ use crate::builder::{Config, Texts};
 pub use captures_iter::CapturesMatches;
 pub use find_iter::FindMatches;
 pub use half_matches::HalfMatches;
-use match_slots::write_match;
 use nfa_choice::choose::{Choice, Engine};
 use nfa_engines::error::SearchError;
 use nfa_engines::pikevm;
@@ -337,8 +337,12 @@ impl Regex {
             (option_map found_of result) }
         ensures pattern { IfSome result (λ m. (found_of m).pattern < length self.old.choice.nfa.patterns) }
         ensures inside { IfSome result (λ m. IsInside (search_of input.entry) (found_of m)) }
-        ensures runs { RunsByWindow (search_of input.entry) self.old self.new }
-        ensures holds { HoldsNoMore (2 * length self.old.choice.nfa.groups) self.old.choice.back self.new.choice.back }
+        ensures work { let x = search_of input.entry in
+            WorksWithin (max_scans self.old.choice.nfa x) (2 * length self.old.choice.nfa.groups) x self.old self.new }
+        // If nothing matches, and the lazy DFA does not stop, no engine of the choice searches.
+        ensures rests { let x = search_of input.entry in
+            IsUnbound self.old.choice.nfa x → x.earliest ≡ false → MatchesNothing self.old.choice.nfa x
+            → self.new.stops ≡ self.old.stops → self.new.choice ≡ self.old.choice }
         ensures keeps { KeepsRegex self.old self.new }
     {
         self.find_by_ref(&input)
@@ -367,25 +371,16 @@ impl Regex {
     ) -> Option<PatternID>
         ensures answer { IsAnswer self.old.choice.nfa (kind_in self.old.choice) (search_of input.now).earliest
             (search_of input.now) (option_map number_of result) slots.new }
-        ensures runs { RunsByWindow (search_of input.now) self.old self.new }
         ensures writes { WritesSlots self.old.choice.nfa (search_of input.now) result slots.old slots.new }
-        ensures holds { HoldsNoMore 0 self.old.choice.back self.new.choice.back }
+        ensures work { let x = search_of input.now in
+            WorksWithin (max_scans self.old.choice.nfa x) 0 x self.old self.new }
+        // If nothing matches, and the lazy DFA does not stop, no engine of the choice searches.
+        ensures rests { let x = search_of input.now in
+            IsUnbound self.old.choice.nfa x → x.earliest ≡ false → MatchesNothing self.old.choice.nfa x
+            → self.new.stops ≡ self.old.stops → self.new.choice ≡ self.old.choice }
         ensures keeps { KeepsRegex self.old self.new }
     {
-        if slots.len() != 2 {
-            return self.search_groups(input, slots);
-        }
-        match self.match_or_part(*input, slots.len()) {
-            Ok(found) => {
-                write_match(found, slots);
-                Some(found.pattern())
-            }
-            Err(Some(part)) => self.choice.search_slots(&part, slots),
-            Err(None) => {
-                slots.fill(None);
-                None
-            }
-        }
+        self.write_slots(input, slots)
     }
 
     /// Returns the pattern of the match that a search of the input finds, and the offset of its end. The NFA need not
@@ -402,17 +397,13 @@ impl Regex {
         ensures pattern { IfSome result (λ m. (half_found_of m).pattern < length self.old.choice.nfa.patterns) }
         ensures inside { IfSome result (λ m. ((search_of input.entry).start ≤ (half_found_of m).offset)
             × ((half_found_of m).offset ≤ (search_of input.entry).end)) }
-        ensures runs { RunsAfterDfa (search_of input.entry) (search_of input.entry).earliest self.old self.new }
-        ensures holds { HoldsNoMore 0 self.old.choice.back self.new.choice.back }
+        ensures work { let x = search_of input.entry in
+            WorksWithin (max_scans self.old.choice.nfa x) 0 x self.old self.new }
+        // If the lazy DFA does not stop, no engine of the choice searches.
+        ensures rests { self.new.stops ≡ self.old.stops → self.new.choice ≡ self.old.choice }
         ensures keeps { KeepsRegex self.old self.new }
     {
-        let rest = self.half_from_prefix(input)?;
-        if let Ok(half) = self.dfa.try_find_half(&mut self.cache, rest) {
-            // An NFA that can be read is valid, so its patterns are those of its Match states.
-            self.choice.get_nfa().states();
-            return half;
-        }
-        self.choice.find_half(input)
+        self.half_of(input)
     }
 
     /// Returns whether a search of the input finds a match. The `earliest` flag of the input does not change the
@@ -427,17 +418,12 @@ impl Regex {
         ensures answer { IsBoolAnswer self.old.choice.nfa (kind_in self.old.choice) false (search_of input.entry)
             result }
         ensures finds { result ≡ finds_in self.old.choice (search_of input.entry) }
-        ensures runs { RunsAfterDfa (search_of input.entry) (not (is_utf8_empty self.old.choice.nfa)) self.old
-            self.new }
-        ensures holds { HoldsNoMore 0 self.old.choice.back self.new.choice.back }
+        ensures work { let x = search_of input.entry in
+            WorksWithin (max_scans self.old.choice.nfa x) 0 x self.old self.new }
+        // If the lazy DFA does not stop, no engine of the choice searches.
+        ensures rests { self.new.stops ≡ self.old.stops → self.new.choice ≡ self.old.choice }
         ensures keeps { KeepsRegex self.old self.new }
     {
-        let Some(rest) = self.half_from_prefix(input) else {
-            return false;
-        };
-        match self.dfa.try_is_match(&mut self.cache, rest) {
-            Ok(found) => found,
-            Err(_) => self.choice.is_match(input),
-        }
+        self.is_found(input)
     }
 }

@@ -326,7 +326,10 @@ module _ (nfa : Automaton) (looks : Bool) where
     -- or none is there
     pub IsUnderWay-dead : (lists : List (Vec ℕ)) → IsUnderWay lists [] None → IsDead nfa looks s byte
     IsUnderWay-dead lists h = record {
-      none = λ r k ws w g. elim (h.covers r k ws w g) [ inl f ↦ elim (none-some f.it f.is) [ ] | inr v ↦ absurd v.among ];
+      none = λ r k ws w g. elim (h.covers r k ws w g) [
+        | inl f ↦ elim (none-some f.it f.is) [ ]
+        | inr v ↦ absurd v.among
+      ];
       shut = λ plain b reads r k ws w m. (h.shut plain b reads r k ws
           (subst (λ (z : Bool). Way nfa z s ws r) (sym plain) w) m).among;
     }

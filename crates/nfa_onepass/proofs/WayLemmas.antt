@@ -370,7 +370,9 @@ module _ (nfa : Automaton) (x : Search) where
       let low = from.late m p tail in
       let g = on.goes_on m p tail low in
       elim (cases_lt at m.1) [
-        | inl more ↦ let r = goes_over false g.0 u at b m covers e g.1 more in dead.none r.last r.to r.slots r.way r.reads
+        | inl more ↦
+            let r = goes_over false g.0 u at b m covers e g.1 more in
+            dead.none r.last r.to r.slots r.way r.reads
         | inr less ↦
             let r = ending false g.0 u at m covers g.1 (omega (arith, low, less)) in
             let j = pattern-some (pattern_of (node_at nfa m.0)) t.matches in

@@ -393,7 +393,8 @@ impl OnePass {
         requires own { IsFor nfa.now self.old }
         requires here { state_at self.old.rows.items row ≡ Some sid }
         requires column { column < 257 }
-        requires cell { IsCell nfa.now self.old.rows.items self.old.lists.items.items self.old.setup.looks sid column cell }
+        requires cell { let s = self.old in
+            IsCell nfa.now s.rows.items s.lists.items.items s.setup.looks sid column cell }
         ensures own { IsFor nfa.now self.new }
         ensures keeps { KeepsRows self.old.rows.items self.new.rows.items }
         ensures setup { self.new.setup ≡ self.old.setup }

@@ -54,7 +54,8 @@ calls-led ys last r ran over = record { items = map Ok ys; last = last; item = r
 -- the calls of a shell give what those of the iterator in it give
 pub given-inner : {U R I T : Type 0} {steps : U → Option I → U → Type 0} {item : R → I}
     (shell : ShellOf steps item T) {First Whole : List I → Type 0} {s : T}
-    → ItemsGiven steps First Whole (shell.inner s) → ItemsGiven shell.calls (λ xs. First (map item xs)) (λ xs. Whole (map item xs)) s
+    → ItemsGiven steps First Whole (shell.inner s)
+    → ItemsGiven shell.calls (λ xs. First (map item xs)) (λ xs. Whole (map item xs)) s
 given-inner {item = item} shell {First = First} {Whole = Whole} {s = s} k =
     given shell.calls (λ xs. First (map item xs)) (λ xs. Whole (map item xs)) s
     (λ xs t ran. k.first (map item xs) (shell.inner t) (yields-inner shell xs s t ran))

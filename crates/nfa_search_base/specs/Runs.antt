@@ -28,7 +28,7 @@ module _ {T R : Type 0} (steps : T → Option R → T → Type 0) where
   abbrev pub GivesKept : (T → T → Type 0) → T → Type 0
   GivesKept Keeps s = (xs : List R) (t : T) (r : Option R) (u : T) → Yields steps s xs t → steps t r u → Keeps s u
 
-  -- all of this but the last
+  -- all of this but `GivesKept`
   pub record ItemsGiven (First Whole : List R → Type 0) (s : T) : Type 0 where
     pub runs : RunsGive First Whole s
     pub first : GivesFirst First s
@@ -52,7 +52,7 @@ module _ {T Y E : Type 0} (steps : T → Option (Result Y E) → T → Type 0) w
   OksAll Whole s = (xs : List (Result Y E)) (t u : T) (ys : List Y) → Yields steps s xs t → steps t None u
       → xs ≡ map Ok ys → Whole ys
 
-  -- all of this
+  -- all four
   pub record OksGiven (First Whole : List Y → Type 0) (s : T) : Type 0 where
     pub runs : OksRun First Whole s
     pub first : OksFirst First s

@@ -1,13 +1,13 @@
 //! Searches of a haystack from an offset on, and where the match that ends first ends.
-ghost use Rattle.std.specs.Prelude.{◌≡◌, ◌*◌, ◌<◌, ◌≤◌, IfSome, None, false, length, not, option_map, true};
+ghost use Rattle.std.specs.Prelude.{◌≡◌, ◌*◌, ◌<◌, ◌≤◌, IfSome, None, false, length, option_map};
 ghost use Rattle.regex_search_core.specs.Found.{found_of};
-ghost use Rattle.nfa_paths.specs.Paths.{IsBoolAnswer, IsFindAnswer, is_utf8_empty};
+ghost use Rattle.nfa_paths.specs.Paths.{IsBoolAnswer, IsFindAnswer, max_scans};
+ghost use Rattle.nfa_paths.specs.Starts.{IsUnbound, MatchesNothing};
 ghost use Rattle.nfa_search_base.specs.Lists.{IsInside};
-ghost use Rattle.nfa_backtrack.specs.Backtrack.{HoldsNoMore};
 ghost use Rattle.nfa_choice.specs.ChoiceState.{finds_in, kind_in};
 ghost use Rattle.nfa_meta.specs.Offsets.{IsEndAnswer, earliest_from, from_offset};
 ghost use Rattle.nfa_meta.specs.RegexState.{KeepsRegex};
-ghost use Rattle.nfa_meta.specs.WindowRuns.{RunsAfterDfa, RunsByWindow};
+ghost use Rattle.nfa_meta.specs.Work.{WorksWithin};
 
 use crate::regex::Regex;
 use regex_search_core::{Input, Match};
@@ -28,9 +28,10 @@ impl Regex {
         ensures finds { start ≤ length haystack.now
             → result ≡ finds_in self.old.choice (from_offset haystack.now start) }
         ensures past { length haystack.now < start → (result ≡ false) × (self.new ≡ self.old) }
-        ensures runs { start ≤ length haystack.now → RunsAfterDfa (from_offset haystack.now start)
-            (not (is_utf8_empty self.old.choice.nfa)) self.old self.new }
-        ensures holds { HoldsNoMore 0 self.old.choice.back self.new.choice.back }
+        ensures work { let x = from_offset haystack.now start in
+            start ≤ length haystack.now → WorksWithin (max_scans self.old.choice.nfa x) 0 x self.old self.new }
+        // If the lazy DFA does not stop, no engine of the choice searches.
+        ensures rests { self.new.stops ≡ self.old.stops → self.new.choice ≡ self.old.choice }
         ensures keeps { KeepsRegex self.old self.new }
     {
         if start > haystack.len() {
@@ -54,9 +55,13 @@ impl Regex {
         ensures past { length haystack.now < start → (result ≡ None) × (self.new ≡ self.old) }
         ensures pattern { IfSome result (λ m. (found_of m).pattern < length self.old.choice.nfa.patterns) }
         ensures inside { IfSome result (λ m. IsInside (from_offset haystack.now start) (found_of m)) }
-        ensures runs { start ≤ length haystack.now
-            → RunsByWindow (from_offset haystack.now start) self.old self.new }
-        ensures holds { HoldsNoMore (2 * length self.old.choice.nfa.groups) self.old.choice.back self.new.choice.back }
+        ensures work { let x = from_offset haystack.now start in
+            start ≤ length haystack.now → WorksWithin (max_scans self.old.choice.nfa x)
+            (2 * length self.old.choice.nfa.groups) x self.old self.new }
+        // If nothing matches, and the lazy DFA does not stop, no engine of the choice searches.
+        ensures rests { let x = from_offset haystack.now start in start ≤ length haystack.now
+            → IsUnbound self.old.choice.nfa x → MatchesNothing self.old.choice.nfa x
+            → self.new.stops ≡ self.old.stops → self.new.choice ≡ self.old.choice }
         ensures keeps { KeepsRegex self.old self.new }
     {
         if start > haystack.len() {
@@ -77,8 +82,10 @@ impl Regex {
         ensures answer { IsEndAnswer self.old.choice.nfa (kind_in self.old.choice) (earliest_from haystack.now 0)
             result }
         ensures inside { IfSome result (λ end. end ≤ length haystack.now) }
-        ensures runs { RunsAfterDfa (earliest_from haystack.now 0) true self.old self.new }
-        ensures holds { HoldsNoMore 0 self.old.choice.back self.new.choice.back }
+        ensures work { let x = earliest_from haystack.now 0 in
+            WorksWithin (max_scans self.old.choice.nfa x) 0 x self.old self.new }
+        // If the lazy DFA does not stop, no engine of the choice searches.
+        ensures rests { self.new.stops ≡ self.old.stops → self.new.choice ≡ self.old.choice }
         ensures keeps { KeepsRegex self.old self.new }
     {
         self.shortest_match_at(haystack, 0)
@@ -98,9 +105,10 @@ impl Regex {
             (earliest_from haystack.now start) result }
         ensures past { length haystack.now < start → (result ≡ None) × (self.new ≡ self.old) }
         ensures inside { IfSome result (λ end. (start ≤ end) × (end ≤ length haystack.now)) }
-        ensures runs { start ≤ length haystack.now
-            → RunsAfterDfa (earliest_from haystack.now start) true self.old self.new }
-        ensures holds { HoldsNoMore 0 self.old.choice.back self.new.choice.back }
+        ensures work { let x = earliest_from haystack.now start in
+            start ≤ length haystack.now → WorksWithin (max_scans self.old.choice.nfa x) 0 x self.old self.new }
+        // If the lazy DFA does not stop, no engine of the choice searches.
+        ensures rests { self.new.stops ≡ self.old.stops → self.new.choice ≡ self.old.choice }
         ensures keeps { KeepsRegex self.old self.new }
     {
         if start > haystack.len() {

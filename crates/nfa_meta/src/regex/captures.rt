@@ -1,9 +1,10 @@
 //! Captures for the NFA, and the searches that fill them.
-ghost use Rattle.std.specs.Prelude.{◌≡◌, ◌≤◌, None, Ok, replicate, IfOk, IsOkUnless};
+ghost use Rattle.std.specs.Prelude.{◌≡◌, ◌≤◌, None, Ok, false, replicate, IfOk, IsOkUnless};
 ghost use Rattle.std.specs.Option.{ForSome};
 ghost use Rattle.regex_search_core.specs.Groups.{slot_count};
 ghost use Rattle.regex_search_core.specs.Search.{search_of};
-ghost use Rattle.nfa_paths.specs.Paths.{IsAnswer};
+ghost use Rattle.nfa_paths.specs.Paths.{IsAnswer, max_scans};
+ghost use Rattle.nfa_paths.specs.Starts.{IsUnbound, MatchesNothing};
 ghost use Rattle.nfa_search_base.specs.IterStates.{answer_span};
 ghost use Rattle.nfa_search_base.specs.WithCaptures.{filled_answer, row_span};
 ghost use Rattle.nfa_backtrack.specs.Backtrack.{HoldsNoMore};
@@ -11,6 +12,7 @@ ghost use Rattle.nfa_choice.specs.Answered.{FillsCaptures};
 ghost use Rattle.nfa_choice.specs.ChoiceState.{kind_in};
 ghost use Rattle.nfa_meta.specs.RegexState.{KeepsRegex};
 ghost use Rattle.nfa_meta.specs.WindowRuns.{RunsByWindow};
+ghost use Rattle.nfa_meta.specs.Work.{WorksWithin};
 
 use crate::regex::Regex;
 use crate::regex::match_slots::fill_captures;
@@ -55,9 +57,13 @@ impl Regex {
     pub fn search_captures(&mut self, input: &Input<'_>, captures: &mut Captures)
         ensures answer { IsAnswer self.old.choice.nfa (kind_in self.old.choice) (search_of input.now).earliest
             (search_of input.now) captures.new.pattern captures.new.slots }
-        ensures runs { RunsByWindow (search_of input.now) self.old self.new }
         ensures fills { FillsCaptures self.old.choice.nfa (search_of input.now) captures.old captures.new }
-        ensures holds { HoldsNoMore 0 self.old.choice.back self.new.choice.back }
+        ensures work { let x = search_of input.now in
+            WorksWithin (max_scans self.old.choice.nfa x) 0 x self.old self.new }
+        // If nothing matches, and the lazy DFA does not stop, no engine of the choice searches.
+        ensures rests { let x = search_of input.now in
+            IsUnbound self.old.choice.nfa x → x.earliest ≡ false → MatchesNothing self.old.choice.nfa x
+            → self.new.stops ≡ self.old.stops → self.new.choice ≡ self.old.choice }
         ensures keeps { KeepsRegex self.old self.new }
     {
         let _ = self.captured_span(input, captures);
@@ -123,9 +129,13 @@ impl Regex {
         ensures answer { let x = search_of input.entry in
             IsAnswer self.old.choice.nfa (kind_in self.old.choice) x.earliest x captures.new.pattern
             captures.new.slots }
-        ensures runs { RunsByWindow (search_of input.entry) self.old self.new }
         ensures fills { FillsCaptures self.old.choice.nfa (search_of input.entry) captures.old captures.new }
-        ensures holds { HoldsNoMore 0 self.old.choice.back self.new.choice.back }
+        ensures work { let x = search_of input.entry in
+            WorksWithin (max_scans self.old.choice.nfa x) 0 x self.old self.new }
+        // If nothing matches, and the lazy DFA does not stop, no engine of the choice searches.
+        ensures rests { let x = search_of input.entry in
+            IsUnbound self.old.choice.nfa x → x.earliest ≡ false → MatchesNothing self.old.choice.nfa x
+            → self.new.stops ≡ self.old.stops → self.new.choice ≡ self.old.choice }
         ensures keeps { KeepsRegex self.old self.new }
     {
         self.search_captures(&input, captures);

@@ -60,15 +60,16 @@ impl CapturesFinder {
 }
 
 impl Regex {
-    ghost use Rattle.std.specs.Prelude.{All, IfOk, IsOkUnless, map};
+    ghost use Rattle.std.specs.Prelude.{◌+◌, ◌*◌, All, IfOk, IsOkUnless, length};
     ghost use Rattle.regex_search_core.specs.Search.{search_of};
-    ghost use Rattle.nfa_search_base.specs.WithCaptures.{row_of};
+    ghost use Rattle.nfa_paths.specs.Paths.{span_len};
     ghost use Rattle.nfa_search_base.specs.Lists.{AnswersRow};
     ghost use Rattle.nfa_search_base.specs.Runs.{CapturesGiven, CapturesInside, CapturesMemory, CapturesWithin};
-    ghost use Rattle.nfa_meta.specs.CapturesMatches.{CapturesBySearches, CapturesGiveKept};
-    ghost use Rattle.nfa_meta.specs.CapturesMatches.{RegexCapturesOn, RegexCapturesToEnd, captures_regex};
-    ghost use Rattle.nfa_meta.specs.CapturesMatches.{captures_next};
+    ghost use Rattle.nfa_meta.specs.CapturesMatches.{CapturesGiveKept, CapturesWorkWithin, captures_next};
+    ghost use Rattle.nfa_meta.specs.CapturesMatches.{captures_regex};
+    ghost use Rattle.nfa_meta.specs.Work.{WorksWithin};
     ghost use Rattle.nfa_meta.specs.CapturesSteps.{BeginsCaptures};
+    ghost use Rattle.nfa_engines.specs.IterationLaws.{list_scan_limit};
     ghost use Rattle.nfa_choice.specs.Answered.{ListsCaptures};
     ghost use Rattle.nfa_choice.specs.ChoiceState.{kind_in};
 
@@ -106,8 +107,8 @@ impl Regex {
             (search_of input.entry)) }
         ensures inside { IfOk result (CapturesWithin captures_next (search_of input.entry)) }
         ensures errors { IfOk result (CapturesMemory captures_next) }
-        // The engines change only by the searches of the steps.
-        ensures searches { IfOk result (CapturesBySearches (search_of input.entry)) }
+        // The engines work within the bounds of an iteration.
+        ensures work { IfOk result (CapturesWorkWithin (search_of input.entry)) }
         ensures keeps { IfOk result CapturesGiveKept }
     {
         let captures = self.create_captures(alloc)?;
@@ -142,8 +143,8 @@ impl Regex {
             (search_of input.entry).earliest) (search_of input.entry) result }
         ensures inside { CapturesWithin captures_next (search_of input.entry) result }
         ensures errors { CapturesMemory captures_next result }
-        // The engines change only by the searches of the steps.
-        ensures searches { CapturesBySearches (search_of input.entry) result }
+        // The engines work within the bounds of an iteration.
+        ensures work { CapturesWorkWithin (search_of input.entry) result }
         ensures keeps { CapturesGiveKept result }
     {
         let backend = CapturesFinder::new(captures);
@@ -178,11 +179,11 @@ impl Regex {
         ensures lists { ListsCaptures self.old.choice (search_of input.entry) result }
         ensures inside { IfOk result (λ all. All (CapturesInside (search_of input.entry)) all.items) }
         ensures keeps { KeepsRegex self.old self.new }
-        // The engines change only by the searches of an iteration. If all captures are returned, these searches go to
-        // its end.
-        ensures searches { RegexCapturesOn (search_of input.entry) self.old self.new }
-        ensures to_end { IfOk result (λ all.
-            RegexCapturesToEnd (search_of input.entry) (map row_of all.items) self.old self.new) }
+        // The engines work within the bounds of an iteration. If all captures are returned, they work within those of
+        // their list.
+        ensures work { let x = search_of input.entry in WorksWithin (2 * span_len x + 3) 0 x self.old self.new }
+        ensures list_work { let x = search_of input.entry in IfOk result (λ all.
+            WorksWithin (list_scan_limit self.old.choice.nfa x (length all.items)) 0 x self.old self.new) }
     {
         let finder = CapturesFinder::new(self.create_captures(alloc)?);
         Steps::new(input, finder).all_with(alloc, self)

@@ -1,11 +1,11 @@
 //! How many groups there are, and how many matches.
-ghost use Rattle.std.specs.Prelude.{◌≡◌, ◌+◌, ◌≤◌, length, sum_by};
+ghost use Rattle.std.specs.Prelude.{◌≡◌, ◌+◌, ◌*◌, ◌≤◌, length, sum_by};
 ghost use Rattle.regex_search_core.specs.Groups.{group_count};
 ghost use Rattle.regex_search_core.specs.Search.{search_of};
 ghost use Rattle.nfa_paths.specs.Paths.{span_len};
 ghost use Rattle.nfa_meta.specs.Counted.{CountsMatches};
-ghost use Rattle.nfa_meta.specs.Matches.{RegexFindsOn};
 ghost use Rattle.nfa_meta.specs.RegexState.{KeepsRegex};
+ghost use Rattle.nfa_meta.specs.Work.{WorksWithin};
 
 use crate::regex::Regex;
 use regex_search_core::Input;
@@ -34,7 +34,8 @@ impl Regex {
         ensures matches { CountsMatches (search_of input.entry) self.old self.new result }
         ensures most { result ≤ span_len (search_of input.entry) + 1 }
         ensures keeps { KeepsRegex self.old self.new }
-        ensures searches { RegexFindsOn (search_of input.entry) self.old self.new }
+        ensures work { let x = search_of input.entry in
+            WorksWithin (2 * span_len x + 3) (2 * length self.old.choice.nfa.groups) x self.old self.new }
     {
         let mut count = 0usize;
         for _found in self.find_iter(input) {

@@ -29,16 +29,18 @@ struct ByWindow {
 }
 
 impl Regex {
-    ghost use Rattle.std.specs.Prelude.{◌≡◌, All, IfOk, IsOkUnless, map};
+    ghost use Rattle.std.specs.Prelude.{◌≡◌, ◌+◌, ◌*◌, All, IfOk, IsOkUnless, length};
     ghost use Rattle.regex_search_core.specs.Found.{found_of};
     ghost use Rattle.regex_search_core.specs.Search.{search_of};
+    ghost use Rattle.nfa_paths.specs.Paths.{span_len};
     ghost use Rattle.nfa_search_base.specs.Lists.{IsInside};
     ghost use Rattle.nfa_search_base.specs.Runs.{MatchesGiven};
+    ghost use Rattle.nfa_engines.specs.IterationLaws.{list_scan_limit};
     ghost use Rattle.nfa_choice.specs.Answered.{ListsMatches};
     ghost use Rattle.nfa_choice.specs.ChoiceState.{kind_in};
     ghost use Rattle.nfa_meta.specs.RegexState.{KeepsRegex};
-    ghost use Rattle.nfa_meta.specs.Matches.{FindsBySearches, FindsGiveKept, RegexFindsOn, RegexFindsToEnd};
-    ghost use Rattle.nfa_meta.specs.Matches.{finds_next, finds_regex};
+    ghost use Rattle.nfa_meta.specs.Matches.{FindsGiveKept, FindsWorkWithin, finds_next, finds_regex};
+    ghost use Rattle.nfa_meta.specs.Work.{WorksWithin};
 
     /// Returns an iterator over all matches that do not overlap, from left to right. Does not allocate.
     ///
@@ -59,8 +61,8 @@ impl Regex {
         // Each run of calls gives the first matches of the input, and all of them if it goes on to `None`.
         ensures given { MatchesGiven self.entry.now.choice.nfa (kind_in self.entry.now.choice)
             (search_of input.entry) finds_next result }
-        // The engines change only by the searches of the steps.
-        ensures searches { FindsBySearches (search_of input.entry) result }
+        // The engines work within the bounds of an iteration, and of a list at its end.
+        ensures work { FindsWorkWithin (search_of input.entry) result }
         ensures keeps { FindsGiveKept result }
     {
         FindMatches {
@@ -89,11 +91,13 @@ impl Regex {
         ensures lists { ListsMatches self.old.choice (search_of input.entry) result }
         ensures inside { IfOk result (λ found. All (λ m. IsInside (search_of input.entry) (found_of m)) found.items) }
         ensures keeps { KeepsRegex self.old self.new }
-        // The engines change only by the searches of an iteration. If all matches are returned, these searches go to
-        // its end.
-        ensures searches { RegexFindsOn (search_of input.entry) self.old self.new }
-        ensures to_end { IfOk result (λ found.
-            RegexFindsToEnd (search_of input.entry) (map found_of found.items) self.old self.new) }
+        // The engines work within the bounds of an iteration. If all matches are returned, they work within those of
+        // their list.
+        ensures work { let x = search_of input.entry in
+            WorksWithin (2 * span_len x + 3) (2 * length self.old.choice.nfa.groups) x self.old self.new }
+        ensures list_work { let x = search_of input.entry in IfOk result (λ found. WorksWithin
+            (list_scan_limit self.old.choice.nfa x (length found.items)) (2 * length self.old.choice.nfa.groups) x
+            self.old self.new) }
     {
         let mut found = Vec::new(alloc);
         for item in self.find_iter(input) {

@@ -92,7 +92,7 @@ impl FindWith for ByEnds {
 
     #[inline]
     fn answer(&mut self, regex: &mut Regex, input: &Input<'_>) -> Option<HalfMatch> {
-        regex.find_half(*input)
+        regex.half_of(*input)
     }
 
     #[inline]

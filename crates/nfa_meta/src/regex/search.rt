@@ -1,13 +1,13 @@
 //! The match of a search, of an input by reference.
-ghost use Rattle.std.specs.Prelude.{◌*◌, ◌<◌, IfSome, length, option_map};
+ghost use Rattle.std.specs.Prelude.{◌≡◌, ◌*◌, ◌<◌, IfSome, false, length, option_map};
 ghost use Rattle.regex_search_core.specs.Found.{found_of};
 ghost use Rattle.regex_search_core.specs.Search.{search_of};
-ghost use Rattle.nfa_paths.specs.Paths.{IsFindAnswer};
+ghost use Rattle.nfa_paths.specs.Paths.{IsFindAnswer, max_scans};
+ghost use Rattle.nfa_paths.specs.Starts.{IsUnbound, MatchesNothing};
 ghost use Rattle.nfa_search_base.specs.Lists.{IsInside};
-ghost use Rattle.nfa_backtrack.specs.Backtrack.{HoldsNoMore};
 ghost use Rattle.nfa_choice.specs.ChoiceState.{kind_in};
 ghost use Rattle.nfa_meta.specs.RegexState.{KeepsRegex};
-ghost use Rattle.nfa_meta.specs.WindowRuns.{RunsByWindow};
+ghost use Rattle.nfa_meta.specs.Work.{WorksWithin};
 
 use crate::regex::Regex;
 use regex_search_core::{Input, Match};
@@ -26,8 +26,12 @@ impl Regex {
             (option_map found_of result) }
         ensures pattern { IfSome result (λ m. (found_of m).pattern < length self.old.choice.nfa.patterns) }
         ensures inside { IfSome result (λ m. IsInside (search_of input.now) (found_of m)) }
-        ensures runs { RunsByWindow (search_of input.now) self.old self.new }
-        ensures holds { HoldsNoMore (2 * length self.old.choice.nfa.groups) self.old.choice.back self.new.choice.back }
+        ensures work { let x = search_of input.now in
+            WorksWithin (max_scans self.old.choice.nfa x) (2 * length self.old.choice.nfa.groups) x self.old self.new }
+        // If nothing matches, and the lazy DFA does not stop, no engine of the choice searches.
+        ensures rests { let x = search_of input.now in
+            IsUnbound self.old.choice.nfa x → x.earliest ≡ false → MatchesNothing self.old.choice.nfa x
+            → self.new.stops ≡ self.old.stops → self.new.choice ≡ self.old.choice }
         ensures keeps { KeepsRegex self.old self.new }
     {
         self.find_by_ref(input)

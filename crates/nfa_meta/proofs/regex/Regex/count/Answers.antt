@@ -1,12 +1,14 @@
 -- The items so far are the first matches, and all of them at the end.
-use Rattle.nfa_paths.proofs.Common.{rules, ◌∙◌, List, ap, arith, common_steps, map, subst, sym, found_of, search_of, Match}
+use Rattle.nfa_paths.proofs.Common.{rules, ◌∙◌, ◌+◌, ◌*◌, ℕ, List, ap, arith, common_steps, length, map, subst, sym, found_of, search_of, span_len, Match}
 use Rattle.std.proofs.iter.runs.Made.{run_of_exit}
 use Rattle.std.proofs.lemmas.List.{length-map}
 use Rattle.nfa_search_base.specs.Common.{AreMatches, MatchesGiven}
+use Rattle.nfa_engines.specs.IterationLaws.{list_scan_limit}
 use Rattle.nfa_choice.specs.ChoiceState.{kind_in}
 use Rattle.nfa_meta.specs.Counted.{CountsMatches}
-use Rattle.nfa_meta.specs.Matches.{FindsBySearches, FindsGiveKept, RegexFindsOn, RegexFindsToEnd, finds_next}
+use Rattle.nfa_meta.specs.Matches.{FindsGiveKept, FindsWorkWithin, finds_next}
 use Rattle.nfa_meta.specs.RegexState.{KeepsRegex, RegexState}
+use Rattle.nfa_meta.specs.Work.{WorksWithin}
 use Rattle.nfa_meta.specs.declared.regex.find_iter.FindMatches.{FindMatches}
 use Rattle.nfa_meta.proofs.CountLemmas.{few-matches}
 use Rattle.nfa_meta.proofs.regex.Regex.count.Goals as goal
@@ -48,13 +50,16 @@ returns-clause-matches c =
     c.in-None.ensures.steps in
     let all = subst (λ (xs : List Match). AreMatches nfa kind x.earliest x (map found_of xs)) run.3.0
     ((given.runs run.0 run.0.seen run.1).1 run.2) in
-    let by = subst (FindsBySearches x) (sym gives) c.find_iter-found-items.ensures.searches in
+    let by = subst (FindsWorkWithin x) (sym gives) c.find_iter-found-items.ensures.work in
     let end = by.to_end ms _ _ c.loop-found.yielded_by c.in-None.ensures.steps in
+    let left = subst (λ (r : RegexState). WorksWithin (list_scan_limit r.choice.nfa x (length ms))
+    (2 * length r.choice.nfa.groups) x r c.next.new.self.regex.now) same end in
     let fact : CountsMatches x c.args.self.now c.next.new.self.regex.now c.loop-found.count = record {
       all = map found_of ms;
       are_all = all;
       count_is = omega (arith, length-map ms found_of, c.loop-found.invariant);
-      to_end = subst (λ (r : RegexState). RegexFindsToEnd x (map found_of ms) r c.next.new.self.regex.now) same end;
+      work = subst (λ (n : ℕ). WorksWithin (list_scan_limit nfa x n) (2 * length nfa.groups) x c.args.self.now
+          c.next.new.self.regex.now) (sym c.loop-found.invariant) left;
     } in
     first_of (search (rules, fact), grind (arith, common_steps, fact))
 
@@ -69,13 +74,15 @@ returns-clause-keeps c =
     subst (λ (r : RegexState). KeepsRegex r c.next.new.self.regex.now) same kept.keeps in
     first_of (search (rules, fact), grind (arith, common_steps, fact))
 
-pub returns-clause-searches : goal.returns-clause-searches
-returns-clause-searches c =
+pub returns-clause-work : goal.returns-clause-work
+returns-clause-work c =
     let x = search_of c.args.input in
     let gives = c.into_iter-found-iterator.ensures.into_iter_gives in
     let same = ap (λ (s : FindMatches). s.regex.now) gives ∙ c.find_iter-found-items.ensures.same_regex in
-    let by = subst (FindsBySearches x) (sym gives) c.find_iter-found-items.ensures.searches in
+    let by = subst (FindsWorkWithin x) (sym gives) c.find_iter-found-items.ensures.work in
     let on = by.on c.loop-found.yielded _ _ _ c.loop-found.yielded_by c.in-None.ensures.steps in
-    let fact : RegexFindsOn x c.args.self.now c.next.new.self.regex.now =
-    subst (λ (r : RegexState). RegexFindsOn x r c.next.new.self.regex.now) same on in
+    let fact : WorksWithin (2 * span_len x + 3) (2 * length c.args.self.now.choice.nfa.groups) x c.args.self.now
+    c.next.new.self.regex.now =
+    subst (λ (r : RegexState). WorksWithin (2 * span_len x + 3) (2 * length r.choice.nfa.groups) x r
+    c.next.new.self.regex.now) same on in
     first_of (search (rules, fact), grind (arith, common_steps, fact))

@@ -1,10 +1,12 @@
 -- It allocates only if there was a match.
-use Rattle.nfa_paths.proofs.Common.{rules, ◌∙◌, List, ap, arith, common_steps, map, subst, sym, found_of, search_of, Match}
+use Rattle.nfa_paths.proofs.Common.{rules, ◌∙◌, ◌+◌, ◌*◌, List, ap, arith, common_steps, length, subst, sym, search_of, span_len, Match}
 use Rattle.nfa_search_base.specs.Common.{MatchesGiven}
 use Rattle.nfa_search_base.proofs.ListLemmas.{none-before}
+use Rattle.nfa_engines.specs.IterationLaws.{list_scan_limit}
 use Rattle.nfa_choice.specs.ChoiceState.{kind_in}
-use Rattle.nfa_meta.specs.Matches.{FindsBySearches, FindsGiveKept, RegexFindsOn, RegexFindsToEnd, finds_next}
+use Rattle.nfa_meta.specs.Matches.{FindsGiveKept, FindsWorkWithin, finds_next}
 use Rattle.nfa_meta.specs.RegexState.{KeepsRegex, RegexState}
+use Rattle.nfa_meta.specs.Work.{WorksWithin}
 use Rattle.nfa_meta.specs.declared.regex.find_iter.FindMatches.{FindMatches}
 use Rattle.nfa_meta.proofs.regex.Regex.find_all.Goals as goal
 
@@ -34,27 +36,31 @@ returns-clause-keeps c =
     subst (λ (r : RegexState). KeepsRegex r c.next.new.self.regex.now) same kept.keeps in
     first_of (search (rules, fact), grind (arith, common_steps, fact))
 
-pub returns-clause-searches : goal.returns-clause-searches
-returns-clause-searches c =
+pub returns-clause-work : goal.returns-clause-work
+returns-clause-work c =
     let x = search_of c.args.input in
     let gives = c.into_iter-item-iterator.ensures.into_iter_gives in
     let same = ap (λ (s : FindMatches). s.regex.now) gives ∙ c.find_iter-item-items.ensures.same_regex in
-    let by = subst (FindsBySearches x) (sym gives) c.find_iter-item-items.ensures.searches in
+    let by = subst (FindsWorkWithin x) (sym gives) c.find_iter-item-items.ensures.work in
     let on = by.on c.loop-item.yielded _ _ _ c.loop-item.yielded_by c.in-None.ensures.steps in
-    let fact : RegexFindsOn x c.args.self.now c.next.new.self.regex.now =
-    subst (λ (r : RegexState). RegexFindsOn x r c.next.new.self.regex.now) same on in
+    let fact : WorksWithin (2 * span_len x + 3) (2 * length c.args.self.now.choice.nfa.groups) x c.args.self.now
+    c.next.new.self.regex.now =
+    subst (λ (r : RegexState). WorksWithin (2 * span_len x + 3) (2 * length r.choice.nfa.groups) x r
+    c.next.new.self.regex.now) same on in
     first_of (search (rules, fact), grind (arith, common_steps, fact))
 
-pub returns-clause-to_end : goal.returns-clause-to_end
-returns-clause-to_end c =
+pub returns-clause-list_work : goal.returns-clause-list_work
+returns-clause-list_work c =
     let x = search_of c.args.input in
     let gives = c.into_iter-item-iterator.ensures.into_iter_gives in
     let same = ap (λ (s : FindMatches). s.regex.now) gives ∙ c.find_iter-item-items.ensures.same_regex in
-    let by = subst (FindsBySearches x) (sym gives) c.find_iter-item-items.ensures.searches in
+    let by = subst (FindsWorkWithin x) (sym gives) c.find_iter-item-items.ensures.work in
     let end = by.to_end c.loop-item.yielded _ _ c.loop-item.yielded_by c.in-None.ensures.steps in
-    let left = subst (λ (r : RegexState). RegexFindsToEnd x (map found_of c.loop-item.yielded) r
-    c.next.new.self.regex.now) same end in
-    let fact : RegexFindsToEnd x (map found_of c.loop-item.found.items) c.args.self.now c.next.new.self.regex.now =
-    subst (λ (ms : List Match). RegexFindsToEnd x (map found_of ms) c.args.self.now c.next.new.self.regex.now)
+    let left = subst (λ (r : RegexState). WorksWithin (list_scan_limit r.choice.nfa x (length c.loop-item.yielded))
+    (2 * length r.choice.nfa.groups) x r c.next.new.self.regex.now) same end in
+    let fact : WorksWithin (list_scan_limit c.args.self.now.choice.nfa x (length c.loop-item.found.items))
+    (2 * length c.args.self.now.choice.nfa.groups) x c.args.self.now c.next.new.self.regex.now =
+    subst (λ (ms : List Match). WorksWithin (list_scan_limit c.args.self.now.choice.nfa x (length ms))
+    (2 * length c.args.self.now.choice.nfa.groups) x c.args.self.now c.next.new.self.regex.now)
     (sym c.loop-item.invariant) left in
     first_of (search (rules, fact), grind (arith, common_steps, fact))

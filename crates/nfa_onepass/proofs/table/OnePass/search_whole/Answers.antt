@@ -20,7 +20,8 @@ returns-clause-answer c =
           (w.in-Ok.ensures.whole plain (c.is_whole.ensures.end whole)) anywhere)
       | in-Err-Nothing w ↦
           let why : w.in-Err-Nothing.field-0 ≡ Nothing = first_of (search rules, grind (arith, common_steps)) in
-          rw (w.slots-is, w.found-is) (subst (λ (z : Slots). IsAnswer nfa LeftmostFirst false x None z) (sym w.unset.ensures)
+          rw (w.slots-is, w.found-is) (subst (λ (z : Slots). IsAnswer nfa LeftmostFirst false x None z)
+          (sym w.unset.ensures)
           (nowhere-answer nfa x anchored (w.in-Err-Nothing.ensures.nothing plain (ap Err why))
           (length c.walk_span.new.slots) anywhere))
     ]

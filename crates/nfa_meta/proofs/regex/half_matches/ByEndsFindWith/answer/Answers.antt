@@ -6,10 +6,10 @@ use Rattle.nfa_meta.proofs.regex.half_matches.ByEndsFindWith.answer.Goals as goa
 
 pub returns : goal.returns
 returns c =
-    let e = c.find_half.ensures in
+    let e = c.half_of.ensures in
     let r = c.args.regex.now.choice in
     let x = search_of c.args.input.now in
     record {
-      tells = half-answered r.nfa (kind_in r) x.earliest x c.find_half.result e.answer;
+      tells = half-answered r.nfa (kind_in r) x.earliest x c.half_of.result e.answer;
       work = record { runs = e.runs; holds = e.holds; keeps = e.keeps };
     }
