@@ -86,6 +86,10 @@ impl Regex {
         ensures holds { HoldsNoMore 0 self.old.choice.back self.new.choice.back }
         ensures keeps { KeepsRegex self.old self.new }
     {
+        if captures.slots().len() != 2 {
+            self.fill_groups(input, captures);
+            return captures_span(captures, Ok(()));
+        }
         if let Some(found) = self.quick_match(input, captures.slots().len()) {
             fill_captures(found, captures);
             return Some(found.span());
@@ -94,7 +98,20 @@ impl Regex {
         captures_span(captures, Ok(()))
     }
 
-    /// Searches as [`Regex::search_captures`] does, if known cells did not lead to the match.
+    /// Searches as [`Regex::search_captures`] does, for captures of any number of slots.
+    fn fill_groups(&mut self, input: &Input<'_>, captures: &mut Captures)
+        ensures answer { IsAnswer self.old.choice.nfa (kind_in self.old.choice) (search_of input.now).earliest
+            (search_of input.now) captures.new.pattern captures.new.slots }
+        ensures runs { RunsByWindow (search_of input.now) self.old self.new }
+        ensures fills { FillsCaptures self.old.choice.nfa (search_of input.now) captures.old captures.new }
+        ensures holds { HoldsNoMore 0 self.old.choice.back self.new.choice.back }
+        ensures keeps { KeepsRegex self.old self.new }
+    {
+        let pattern = self.search_groups(input, captures.slots_mut());
+        captures.set_pattern(pattern);
+    }
+
+    /// Searches as [`Regex::search_captures`] does for captures of two slots, if known cells did not lead to the match.
     // A call of its own, so that a match at the likely start costs no large frame.
     #[inline(never)]
     fn fill_past_quick(&mut self, input: &Input<'_>, captures: &mut Captures)
@@ -105,11 +122,6 @@ impl Regex {
         ensures holds { HoldsNoMore 0 self.old.choice.back self.new.choice.back }
         ensures keeps { KeepsRegex self.old self.new }
     {
-        if captures.slots().len() != 2 {
-            let pattern = self.search_groups(input, captures.slots_mut());
-            captures.set_pattern(pattern);
-            return;
-        }
         match self.match_past_quick(*input, captures.slots().len()) {
             Ok(found) => fill_captures(found, captures),
             Err(Some(part)) => self.choice.search(&part, captures),

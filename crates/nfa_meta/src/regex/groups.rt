@@ -88,6 +88,8 @@ impl Regex {
     }
 
     /// Searches by the choice the part of the input that has the answer. Without one nothing matches.
+    // Inline, since a search that finds nothing ends here.
+    #[inline(always)]
     fn search_part<'h>(
         &mut self,
         input: &Input<'h>,

@@ -1,8 +1,7 @@
 -- The groups in the part are those of the search.
-use Rattle.nfa_paths.proofs.Common.{rules, ◌≡◌, ◌∙◌, Bool, length, arith, subst, common_steps, option_map, found_of, number_of, search_of, IsAnswer, ap}
+use Rattle.nfa_paths.proofs.Common.{rules, ◌∙◌, Bool, arith, subst, common_steps, found_of, search_of, IsAnswer, ap}
 use Rattle.nfa_choice.specs.ChoiceState.{kind_in}
 use Rattle.nfa_search_base.proofs.SpanLemmas.{spans-inside}
-use Rattle.nfa_meta.proofs.GroupLemmas.{captures-fill}
 use Rattle.nfa_meta.proofs.MatchSlotLemmas.{match_slots-inside}
 use Rattle.nfa_meta.proofs.WindowLemmas.{part-earliest}
 use Rattle.nfa_meta.specs.RegexState.{RegexState}
@@ -35,20 +34,6 @@ returns-in-Ok-clause-fills c =
       inside = rw c.fill_captures.ensures inside;
       spans = rw c.fill_captures.ensures (spans-inside x _ inside);
     }
-
-pub returns-then-slots-ne2-clause-fills : goal.returns-then-slots-ne2-clause-fills
-returns-then-slots-ne2-clause-fills c =
-    let x = search_of c.args.input.now in
-    let r = c.args.self.now.choice in
-    let old = c.args.captures.now in
-    let new = c.set_pattern.new.self in
-    let is : new.slots ≡ c.search_groups-pattern.new.slots = first_of (search rules, grind (arith, common_steps)) in
-    let groups : new.groups ≡ old.groups = first_of (search rules, grind (arith, common_steps)) in
-    let count : length new.slots ≡ length old.slots = first_of (search rules, grind (arith, common_steps)) in
-    let pattern : new.pattern ≡ option_map number_of c.search_groups-pattern.result =
-    first_of (search rules, grind (arith, common_steps)) in
-    captures-fill r.nfa x c.search_groups-pattern.result old new groups count pattern
-    (rw is (rw c.slots_mut.ensures.value at c.search_groups-pattern.ensures.writes))
 
 pub returns-in-Err-Some-clause-runs : goal.returns-in-Err-Some-clause-runs
 returns-in-Err-Some-clause-runs c =
