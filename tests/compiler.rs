@@ -4,6 +4,7 @@
 mod anchors;
 mod examples;
 mod hostile;
+mod least;
 mod prefixes;
 mod refused;
 mod required;

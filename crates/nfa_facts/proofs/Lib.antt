@@ -3,9 +3,11 @@ pub mod LawLemmas
 pub mod MatchLemmas
 pub mod StatePathLemmas
 pub mod SearchLemmas
--- On occurrences of bytes, the bytes that paths read first, bytes that each path reads, and searches for them.
+-- On occurrences of bytes, the bytes that paths read first, bytes that each path reads and how many, and searches for
+-- them.
 mod ByteLemmas
 pub mod FewLemmas
+pub mod LeastLemmas
 pub mod LevelLemmas
 pub mod NeedleLemmas
 pub mod OccurrenceLemmas

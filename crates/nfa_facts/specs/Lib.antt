@@ -1,6 +1,7 @@
 pub mod CapturesLaws
 pub mod FewBytes
 pub mod Kept
+pub mod LeastLengths
 pub mod Levels
 pub mod Literals
 pub mod MatchSpanLaws

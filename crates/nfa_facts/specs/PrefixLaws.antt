@@ -1,8 +1,9 @@
 -- Laws of the bytes that each match begins with, about the definitions only.
-use Rattle.std.specs.Prelude.{ℕ, ◌<◌, ◌≤◌, Bool, false, List, None, replicate}
+use Rattle.std.specs.Prelude.{ℕ, ◌+◌, ◌<◌, ◌≤◌, Bool, false, List, None, replicate}
 use Rattle.nfa_paths.specs.Common.{Search, MatchKind, Automaton, IsAnswer, IsBoolAnswer, IsFindAnswer, IsHalfAnswer}
 use Rattle.nfa_engines.specs.Laws.{MatchesNothing}
 use Rattle.nfa_engines.specs.StartLaws.{anchored_at, IsFirstStart, IsUnbound}
+use Rattle.nfa_facts.specs.LeastLengths.{HasLeast}
 use Rattle.nfa_facts.specs.Prefixes.{IsFirstOccurrence, OccursBefore, OccursNowhere, BeginsWith, prefix_of}
 
 -- each match of an NFA begins with its prefix
@@ -35,6 +36,12 @@ NothingWithoutOccurrence =
     (nfa : Automaton) (x : Search) (bytes : List ℕ) (from : ℕ) → IsUnbound nfa x → BeginsWith nfa bytes
     → IsFirstStart nfa x from
     → OccursNowhere x.haystack x.end bytes from → MatchesNothing nfa x
+
+-- if the span has fewer bytes than each match, the search has no accepting path
+abbrev pub NothingInFewerBytes : Type 0
+NothingInFewerBytes =
+    (nfa : Automaton) (x : Search) (least : ℕ) → IsUnbound nfa x → HasLeast nfa least → x.end < x.start + least
+    → MatchesNothing nfa x
 
 -- a search without an accepting path has an answer without a pattern, and whose slots are `None`
 abbrev pub NothingIsNoAnswer : Type 0

@@ -13,6 +13,7 @@
 pub mod few_bytes;
 pub mod find;
 pub mod laws;
+mod least_length;
 mod level;
 mod levels;
 pub mod literals;

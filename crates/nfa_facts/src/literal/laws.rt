@@ -11,7 +11,8 @@ ghost use Rattle.nfa_facts.specs.PrefixLaws.{FirstStartMovesOn, FirstStartMovesT
 ghost use Rattle.nfa_facts.specs.PrefixLaws.{NothingIsNoHalfMatch, NothingIsNoMatch, NothingIsNotFound};
 ghost use Rattle.nfa_facts.specs.RequiredLaws.{FirstStartMovesToRequired, NothingWithoutRequired};
 ghost use Rattle.nfa_facts.specs.RequiredLaws.{NothingWithoutRequiredAhead};
-ghost use Rattle.nfa_facts.specs.PrefixLaws.{NothingWithoutBytes, NothingWithoutOccurrence, PrefixBegins};
+ghost use Rattle.nfa_facts.specs.PrefixLaws.{NothingInFewerBytes, NothingWithoutBytes, NothingWithoutOccurrence};
+ghost use Rattle.nfa_facts.specs.PrefixLaws.{PrefixBegins};
 
 /// Each match of an NFA begins with its prefix, which `literal_prefix` returns: wherever an anchored search has an
 /// accepting path, the prefix is in the haystack, inside the span.
@@ -51,6 +52,13 @@ pub fn starts_without_required_bytes_may_be_passed()
 /// Premises: neither the search nor the NFA is anchored, and a match may end anywhere.
 pub fn no_match_without_required_bytes()
     ensures { NothingWithoutRequiredAhead }
+{}
+
+/// If each match has at least some number of bytes, and the span has fewer, the search has no accepting path.
+///
+/// Premises: neither the search nor the NFA is anchored, and a match may end anywhere.
+pub fn no_match_in_fewer_bytes()
+    ensures { NothingInFewerBytes }
 {}
 
 /// A search without an accepting path has no match, no half match and no pattern, and each slot is `None`. This holds

@@ -11,9 +11,10 @@ ghost use Rattle.nfa_facts.specs.RequiredBytes.{IsRequired};
 use crate::literal::few_bytes::FewBytes;
 use crate::literal::find::find_prefix;
 use crate::literal::laws::{
-    no_match_without_prefix, no_match_without_required_bytes, starts_without_prefix_may_be_passed,
-    starts_without_required_bytes_may_be_passed,
+    no_match_in_fewer_bytes, no_match_without_prefix, no_match_without_required_bytes,
+    starts_without_prefix_may_be_passed, starts_without_required_bytes_may_be_passed,
 };
+use crate::literal::least_length::least_length;
 use crate::literal::levels::{Levels, MIN_LEVELS};
 use crate::literal::prefix::literal_prefix;
 use crate::literal::required_bytes::RequiredBytes;
@@ -25,6 +26,8 @@ use thompson_nfa::NFA;
 /// What each match of an NFA begins with.
 #[derive(Debug, Drop)]
 pub struct Literals {
+    /// The least number of bytes of a match, as far as it is known.
+    least: usize,
     /// The bytes that each match begins with.
     prefix: Vec<u8>,
     /// The bytes that matches may have at their first positions, if they are rare in text: a prefix of two bytes or
@@ -47,12 +50,14 @@ impl Literals {
     pub fn new(alloc: Global, nfa: &NFA) -> Result<Literals, AllocError>
         ensures { IfOk result (AreLiteralsOf nfa.now) }
     {
+        let least = least_length(alloc, nfa)?;
         let prefix = literal_prefix(alloc, nfa)?;
         let levels = levels_of(alloc, nfa, &prefix)?;
         let first = FewBytes::new(nfa);
         let is_known = !prefix.is_empty() || levels.is_some();
         let required = required_of(alloc, nfa, is_known)?;
         Ok(Literals {
+            least,
             prefix,
             levels,
             first,
@@ -61,7 +66,7 @@ impl Literals {
     }
 
     /// Returns a position of the span before which no match starts, as far on as the literals say. Returns `None` if
-    /// they say that nothing matches.
+    /// they say that nothing matches, as where the span has fewer bytes than each match.
     ///
     /// It is the first one at which the prefix of each match occurs. If that has fewer than two bytes, and the bytes
     /// that matches may have at their first positions are rare in usual text, it is one up to the first with these.
@@ -74,6 +79,7 @@ impl Literals {
     /// // NFA of "foo[0-9]+", and its literals
     /// assert!(rt; literals.first_start(&nfa, &Input::new(b"a foo1")) == Some(2));
     /// assert!(rt; literals.first_start(&nfa, &Input::new(b"a fo1")) == None);
+    /// assert!(rt; literals.first_start(&nfa, &Input::new(b"foo")) == None);
     /// ```
     pub fn first_start(&self, nfa: &NFA, input: &Input<'_>) -> Option<usize>
         requires of { AreLiteralsOf nfa.now self.now }
@@ -83,6 +89,10 @@ impl Literals {
         ensures within { IfSome result (λ at. at ≤ (search_of input.now).end + 1) }
     {
         bytes_may_be_skipped();
+        no_match_in_fewer_bytes();
+        if input.get_span().len() < self.least {
+            return None;
+        }
         self.next_start(nfa, input, input.start())
     }
 
