@@ -1,5 +1,5 @@
 //! Callers of a regex: of one that is made of the text of a pattern, and of captures that are lent.
-ghost use Rattle.std.specs.Prelude.{◌≡◌, ◌+◌, ◌*◌, ◌≤◌, IfOk, map};
+ghost use Rattle.std.specs.Prelude.{◌≡◌, ◌+◌, ◌*◌, ◌/◌, ◌≤◌, IfOk, length, map, max};
 ghost use Rattle.nfa_engines.specs.Found.{found_of};
 ghost use Rattle.nfa_engines.specs.Paths.{span_len};
 ghost use Rattle.nfa_engines.specs.Search.{search_of};
@@ -53,4 +53,21 @@ pub fn is_clean(regex: &mut Regex, text: &[u8]) -> bool
     ensures { regex.new.stops ≡ regex.old.stops → regex.new.choice ≡ regex.old.choice }
 {
     !regex.is_match(Input::new(text))
+}
+
+/// Returns the first match. The backtracker then has no more blocks of 64 marks than before, or than mark each state at
+/// each position of the text.
+pub fn first_match(regex: &mut Regex, text: &[u8]) -> Option<Match>
+    ensures { regex.new.choice.back.blocks ≤ max regex.old.choice.back.blocks
+        ((length regex.old.choice.nfa.states * (length text.now + 1) + 63) / 64) }
+{
+    regex.find(Input::new(text))
+}
+
+/// Returns where a match ends first. If the lazy DFA does not stop, no other engine searches.
+pub fn first_end(regex: &mut Regex, text: &[u8]) -> Option<usize>
+    ensures { regex.new.stops ≡ regex.old.stops → regex.new.choice ≡ regex.old.choice }
+{
+    let half = regex.half_matches(Input::new(text)).next()?;
+    Some(half.offset())
 }

@@ -1,15 +1,23 @@
 -- What lists add to the totals of both caches of a choice, whichever engines its searches run.
 use Rattle.regex_search_core.specs.declared.search.MatchKind.TheVariants.{All}
-use Rattle.nfa_paths.proofs.Common.{◌≡◌, ◌∙◌, ◌⊎◌, Bool, true, false, refl, ap, subst, inl, inr, not, and_parts, Search, MatchKind, LeftmostFirst}
-use Rattle.nfa_search_base.specs.Common.{row_span, DoesSearch, span_of}
+use Rattle.nfa_paths.proofs.Common.{◌≡◌, ◌∙◌, ◌⊎◌, ◌+◌, ◌*◌, Bool, true, false, List, length, None, Some, Ok, Err, refl, ap, subst, inl, inr, not, and_parts, HalfFound, Search, Span, MatchKind, LeftmostFirst, span_len}
+use Rattle.nfa_search_base.specs.Common.{Answer, answer_span, half_span_of, row_span, DoesSearch, span_of}
 use Rattle.nfa_search_base.proofs.StepLemmas.{chosen}
 use Rattle.nfa_engines.specs.IterationLaws.{Totals, backtracker_totals, list_scan_limit, pike_totals}
-use Rattle.nfa_engines.proofs.EngineWorkLemmas.{WorkOf, Worked, calls-add, list-adds, match-hit, row-hit, work-within, worked}
+use Rattle.nfa_engines.proofs.EngineWorkLemmas.{Hit, WorkOf, Worked, calls-add, half-hit, list-adds, match-hit, no-hit, row-hit, work-within, worked}
 use Rattle.nfa_pikevm.specs.Engines.{Pike, kind_of}
 use Rattle.nfa_choice.specs.ChoiceState.{BacktrackerRan, ChoiceState, FellBackToPike, SearchedByRule, is_for_backtracker, is_leftmost_first, kind_in, pike_of}
 use Rattle.nfa_choice.specs.Iterations.{ChoiceEngine, FindsBy, SearchesBy, TellsMatch, TellsRow}
-use Rattle.nfa_choice.specs.WorkLaws.{CapturesCostWithin, FindsWithin, MatchesAreWithin, RowsAreWithin}
+use Rattle.nfa_choice.specs.HalfIterations.{HalvesOn, HalvesToEnd, TellsHalf}
+use Rattle.nfa_choice.specs.WorkLaws.{CapturesCostWithin, ChoiceAddsAtMost, FindsWithin, MatchesAreWithin, RowsAreWithin}
 use Rattle.nfa_choice.proofs.FindLemmas.{KeepsChoice, pike-kept}
+
+-- what the half match of a search tells
+pub half-told : (vm : Pike) (y : Search) (a : Answer HalfFound) → TellsHalf vm y a
+    → Hit vm.nfa (kind_of vm) y.earliest y (answer_span half_span_of a)
+half-told vm y (Ok (Some half)) h = half-hit vm.nfa (kind_of vm) y.earliest y half h
+half-told vm y (Ok None) h = no-hit vm.nfa (kind_of vm) y.earliest y
+half-told vm y (Err error) h = no-hit vm.nfa (kind_of vm) y.earliest y
 
 -- what a search for the backtracker asks
 leftmost : (kind : MatchKind) → is_leftmost_first kind ≡ true → LeftmostFirst ≡ kind
@@ -86,27 +94,30 @@ module _ {C : Type 0} {e : ChoiceEngine C} (keeps : KeepsChoice e) (totals : Cho
     pike-kept (e.choice s) (e.choice t) (keeps.engines s t kept) ∙ is,
   )
 
-  abbrev finds_work : WorkOf span_of (DoesSearch (TellsMatch c) (λ y a. FindsBy e y))
-  finds_work = record {
+  -- the work of searches that answer so, and run and keep what the engine does
+  abbrev searches_work : {X : Type 0} {span : X → Span} {Tells : Search → Answer X → Type 0}
+      {Asked : Search → C → C → Type 0}
+      → ((y : Search) (a : Answer X) → Tells y a → Hit c.nfa (kind_in c) y.earliest y (answer_span span a))
+      → ((y : Search) (s t : C) → Asked y s t → e.Runs y s t × e.Keeps s t)
+      → WorkOf span (DoesSearch Tells (λ y a. Asked y))
+  searches_work hits did = record {
     nfa = c.nfa;
     kind = kind_in c;
     early = λ y. y.earliest;
     totals = done;
     Good = IsOf;
-    hits = λ s y a t asked. match-hit c.nfa (kind_in c) y.earliest y a asked.tells;
-    works = λ s y a t is asked. works y s t is asked.work.runs asked.work.keeps;
+    hits = λ s y a t asked. hits y a asked.tells;
+    works = λ s y a t is asked. let by = did y s t asked.work in works y s t is by.0 by.1;
   }
 
+  abbrev finds_work : WorkOf span_of (DoesSearch (TellsMatch c) (λ y a. FindsBy e y))
+  finds_work = searches_work (λ y a. match-hit c.nfa (kind_in c) y.earliest y a) (λ y s t by. (by.runs, by.keeps))
+
   abbrev captures_work : WorkOf row_span (DoesSearch (TellsRow c) (λ y a. SearchesBy e y))
-  captures_work = record {
-    nfa = c.nfa;
-    kind = kind_in c;
-    early = λ y. y.earliest;
-    totals = done;
-    Good = IsOf;
-    hits = λ s y a t asked. row-hit c.nfa (kind_in c) y.earliest y a asked.tells;
-    works = λ s y a t is asked. works y s t is asked.work.runs asked.work.keeps;
-  }
+  captures_work = searches_work (λ y a. row-hit c.nfa (kind_in c) y.earliest y a) (λ y s t by. (by.runs, by.keeps))
+
+  abbrev halves_work : WorkOf half_span_of (DoesSearch (TellsHalf (pike_of c)) (λ y a. SearchesBy e y))
+  halves_work = searches_work (half-told (pike_of c)) (λ y s t by. (by.runs, by.keeps))
 
 -- So it does by those of both caches.
 module _ {C : Type 0} {e : ChoiceEngine C} (keeps : KeepsChoice e) (back : DoesBy back_in e) (pike : DoesBy pike_in e)
@@ -133,4 +144,20 @@ module _ {C : Type 0} {e : ChoiceEngine C} (keeps : KeepsChoice e) (back : DoesB
     captures-stay-within x c d h = record {
       back = calls-add (captures_work keeps back_in back (e.choice c)) x c d refl h;
       pike = calls-add (captures_work keeps pike_in pike (e.choice c)) x c d refl h;
+    }
+
+    -- half matches cost what matches do
+    pub halves-within : (x : Search) (ms : List HalfFound) (c d : C)
+        → HalvesToEnd (λ s. pike_of (e.choice s)) (SearchesBy e) x ms c d
+        → ChoiceAddsAtMost (list_scan_limit (e.choice c).nfa x (length ms)) x (e.choice c) (e.choice d)
+    halves-within x ms c d h = record {
+      back = list-adds (halves_work keeps back_in back (e.choice c)) x ms c d refl h;
+      pike = list-adds (halves_work keeps pike_in pike (e.choice c)) x ms c d refl h;
+    }
+
+    pub halves-stay-within : (x : Search) (c d : C) → HalvesOn (λ s. pike_of (e.choice s)) (SearchesBy e) x c d
+        → ChoiceAddsAtMost (2 * span_len x + 3) x (e.choice c) (e.choice d)
+    halves-stay-within x c d h = record {
+      back = calls-add (halves_work keeps back_in back (e.choice c)) x c d refl h;
+      pike = calls-add (halves_work keeps pike_in pike (e.choice c)) x c d refl h;
     }

@@ -1,13 +1,14 @@
 -- What an iteration adds to the totals of a cache, where each search does the work that its engine states.
-use Rattle.nfa_paths.proofs.Common.{mul-le-mul_left, ◌≡◌, ◌∙◌, ℕ, ◌+◌, ◌*◌, ◌≤◌, ◌⊎◌, Bool, List, length, ap, Option, None, Some, arith, not, ◌&&◌, Found, Search, is_anchored, Anchored, MatchKind, Span, Automaton, IsFindAnswer, IsWithinScans, IsWork, max_scans, span_len, total_degree, is_utf8_empty, IsBounded, max_scan_turns, false, inl, inr, Ok, Err, LeftmostFirst}
+use Rattle.nfa_paths.proofs.Common.{mul-le-mul_left, ◌≡◌, ◌∙◌, ℕ, ◌+◌, ◌*◌, ◌≤◌, ◌⊎◌, Bool, List, length, ap, Option, None, Some, arith, not, ◌&&◌, Found, HalfFound, Search, is_anchored, Anchored, MatchKind, Span, Automaton, IsHalfAnswer, IsWithinScans, IsWork, max_scans, span_len, total_degree, is_utf8_empty, IsBounded, max_scan_turns, false, inl, inr, Ok, Err, LeftmostFirst}
 use Rattle.nfa_paths.proofs.AnswerLemmas.{search_answer-unique}
-use Rattle.nfa_paths.proofs.InsideLemmas.{match-within}
-use Rattle.nfa_search_base.specs.Common.{Row, row_span, AnswersRow, Leaves, LeavesAtEnd, answers_to_end, SameButStart, AnswersMatch, Answer, LiesIn, fresh, answer_span, span_of, DoesSearch, asks_keeping}
+use Rattle.nfa_paths.proofs.InsideLemmas.{half-within}
+use Rattle.nfa_search_base.specs.Common.{Row, row_found, row_span, half_span_of, AnswersRow, Leaves, LeavesAtEnd, answers_to_end, SameButStart, AnswersMatch, Answer, LiesIn, fresh, answer_span, span_of, DoesSearch, asks_keeping}
 use Rattle.nfa_search_base.proofs.CapturesLemmas.{row-tells}
 use Rattle.nfa_search_base.proofs.IterStateLemmas.{IsOrdered}
+use Rattle.nfa_search_base.proofs.ListLemmas.{match-lies}
 use Rattle.nfa_engines.specs.IterationLaws.{AddsAtMost, Totals, list_scan_limit, backtracker_totals, pike_totals}
 use Rattle.nfa_engines.proofs.IterationLemmas.{first-ends}
-use Rattle.nfa_engines.proofs.ReachLemmas.{Reaches, few-scans, match-known, match-reaches, one-scan, restarts_in}
+use Rattle.nfa_engines.proofs.ReachLemmas.{Reaches, few-scans, half-known, half-reaches, match-known, match-reaches, one-scan, restarts_in}
 use Rattle.nfa_engines.proofs.WorkLemmas.{Adds, Costs, CostsOf, adds-none, calls-within, few-found, found_count, found_count-to_end, is_of-fresh, led, list-within}
 use Rattle.nfa_search_base.proofs.EngineLemmas.{same-or-made}
 use Rattle.nfa_backtrack.specs.Backtrack.{Backtracker, BacktrackCache}
@@ -16,20 +17,41 @@ use Rattle.nfa_pikevm.specs.Engines.{Pike, PikeCache, kind_of}
 use Rattle.nfa_pikevm.specs.Finding.{PikeSearches, PikeAnswersMatch, PikeAnswersRow, pike_scans}
 
 module _ (nfa : Automaton) (kind : MatchKind) (earliest : Bool) where
-  -- the match of a search lies there, if there is one
-  abbrev pub Hit : Search → Option Span → Type 0
-  Hit x None = Unit {0}
-  Hit x (Some p) = (f : Found) × IsFindAnswer nfa kind earliest x (Some f) × (p ≡ span_of f)
+  -- The match of a search lies there, if there is one: in the span, and after the starts that its scans passed.
+  pub record Hit (x : Search) (reply_span : Option Span) : Type 0 where
+    pub lies : LiesIn x reply_span × IsOrdered reply_span
+    pub reaches : (count : ℕ) → IsWithinScans nfa kind earliest x count → Reaches x count reply_span
+    pub known : Reaches x 0 reply_span
+
+  pub no-hit : (x : Search) → Hit x None
+  no-hit x = record {
+    lies = (tt, λ p is. let never : None ≡ Some p = is in cc);
+    reaches = λ count within. tt;
+    known = tt;
+  }
 
   pub match-hit : (x : Search) (a : Answer Found) → AnswersMatch nfa kind earliest x a → Hit x (answer_span span_of a)
-  match-hit x a h = grind arith
+  match-hit x (Ok (Some f)) h = record {
+    lies = match-lies nfa kind earliest x (Ok (Some f)) h;
+    reaches = λ count within. match-reaches nfa kind earliest x count within f h;
+    known = match-known nfa kind earliest x f h;
+  }
+  match-hit x (Ok None) h = no-hit x
+  match-hit x (Err error) h = no-hit x
 
   pub row-hit : (x : Search) (a : Answer Row) → AnswersRow nfa kind earliest x a → Hit x (answer_span row_span a)
-  row-hit x a h = grind (arith, row-tells)
+  row-hit x (Ok (Some row)) h =
+      match-hit x (Ok (Some (row_found row))) (row-tells nfa kind earliest x (Ok (Some row)) h)
+  row-hit x (Ok None) h = no-hit x
+  row-hit x (Err error) h = no-hit x
 
-  hit-lies : (x : Search) (reply_span : Option Span) → Hit x reply_span → LiesIn x reply_span × IsOrdered reply_span
-  hit-lies x None h = (tt, λ p is. let never : None ≡ Some p = is in cc)
-  hit-lies x (Some p) h = grind (arith, match-within nfa kind earliest x h.0 h.1)
+  pub half-hit : (x : Search) (half : HalfFound) → IsHalfAnswer nfa kind earliest x (Some half)
+      → Hit x (Some (half_span_of half))
+  half-hit x half h = record {
+    lies = (half-within nfa kind earliest x half h, grind arith);
+    reaches = λ count within. half-reaches nfa kind earliest x count within half h;
+    known = half-known nfa kind earliest x half h;
+  }
 
   -- one search did the work that is its own
   pub record Worked (x : Search) (old new : Totals) : Type 0 where
@@ -63,7 +85,7 @@ module _ (nfa : Automaton) (kind : MatchKind) (earliest : Bool) where
       record {
         starts = few-scans nfa kind earliest y w.count w.bounded.within;
         once = λ never. one-scan nfa y w.count (same ∙ never) w.bounded.scans;
-        reach = reach reply_span hit;
+        reach = hit.reaches w.count w.bounded.within;
       },
       record {
         scans = w.scans;
@@ -81,21 +103,13 @@ module _ (nfa : Automaton) (kind : MatchKind) (earliest : Bool) where
         by-more : (a b m n k : ℕ) → a ≡ b + m → m ≤ n → n ≤ k → a ≤ b + k
         by-more a b m n k is h more = omega arith
 
-        reach : (o : Option Span) → Hit nfa kind earliest y o → Reaches y w.count o
-        reach None h = tt
-        reach (Some p) h = rw h.2 (match-reaches nfa kind earliest y w.count w.bounded.within h.0 h.1)
-
     -- and what it costs where the answer was known
     known-cost : new ≡ old → Cost
     known-cost is = (
       0,
-      record { starts = omega arith; once = λ never. omega arith; reach = reach reply_span hit },
+      record { starts = omega arith; once = λ never. omega arith; reach = hit.known },
       rw is (adds-none (max_scan_turns nfa x) old),
     )
-      where
-        reach : (o : Option Span) → Hit nfa kind earliest y o → Reaches y 0 o
-        reach None h = tt
-        reach (Some p) h = rw h.2 (match-known nfa kind earliest y h.0 h.1)
 
     cost-of : Worked nfa kind earliest y old new ⊎ (new ≡ old) → Cost
     cost-of = grind (arith, worked-cost, known-cost)
@@ -137,8 +151,7 @@ module _ {S X : Type 0} {span : X → Span} {asks : S → Search → Answer X �
       → AddsAtMost (2 * span_len x + 3) work.nfa x (work.totals s) (work.totals t)
   calls-add s t good left =
       let all = led costs (fresh x) s left.answers t (is_of-fresh x) good left.steps in
-      let few = few-found costs (λ p y a q asked. hit-lies work.nfa work.kind (work.early y) y (answer_span span a)
-      (work.hits p y a q asked)) in
+      let few = few-found costs (λ p y a q asked. let hit = work.hits p y a q asked in hit.lies) in
       let found = few (fresh x) s left.answers t (is_of-fresh x) good left.steps in
       let ends = first-ends x in
       calls-within work.nfa x (found_count left.answers) (work.totals s) (work.totals t) all
@@ -191,12 +204,12 @@ module _ (e : Backtracker) where
   pub find-hit : (y : Search) (a : Answer Found) → IsTryFindAnswer e y a
       → Hit e.nfa LeftmostFirst false y (answer_span span_of a)
   find-hit y (Ok found) h = match-hit e.nfa LeftmostFirst false y (Ok found) h.1
-  find-hit y (Err error) h = tt
+  find-hit y (Err error) h = no-hit e.nfa LeftmostFirst false y
 
   pub captures-hit : (y : Search) (a : Answer Row) → IsTryCapturesAnswer e y a
       → Hit e.nfa LeftmostFirst false y (answer_span row_span a)
   captures-hit y (Ok row) h = row-hit e.nfa LeftmostFirst false y (Ok row) h.1
-  captures-hit y (Err error) h = tt
+  captures-hit y (Err error) h = no-hit e.nfa LeftmostFirst false y
 
   -- its searches for matches, unless a match is known, and for captures
   abbrev pub back_found

@@ -1,9 +1,10 @@
--- A search that restarts finds its match after the starts that it passed, and restarts only where a start is left.
-use Rattle.nfa_paths.proofs.Common.{◌≡◌, ℕ, ◌+◌, ◌-◌, ◌<◌, ◌≤◌, Bool, false, MatchBool, List, arith, Option, None, Some, ◌&&◌, not, Found, Search, is_anchored, MatchKind, Span, Automaton, Pair, IsKeptAnswer, IsFindAnswer, IsRestartedAnswer, IsScanAnswer, IsSearchAnswer, IsWithinScans, SplitsCharacter, is_utf8_empty, raised, max_scans}
+-- A search that restarts finds its match, or half match, after the starts that it passed, and restarts only where a
+-- start is left.
+use Rattle.nfa_paths.proofs.Common.{◌≡◌, ℕ, ◌+◌, ◌-◌, ◌<◌, ◌≤◌, Bool, false, MatchBool, List, arith, Option, None, Some, ◌&&◌, not, Found, HalfFound, Search, is_anchored, MatchKind, Span, Automaton, Pair, IsKeptAnswer, IsFindAnswer, IsHalfAnswer, IsRestartedAnswer, IsScanAnswer, IsSearchAnswer, IsWithinScans, SplitsCharacter, is_utf8_empty, raised, max_scans}
 use Rattle.nfa_paths.proofs.AnswerLemmas.{scan_answer-within}
 use Rattle.nfa_paths.proofs.ExistenceLemmas.{search_answer-exists}
-use Rattle.nfa_paths.proofs.InsideLemmas.{match-within}
-use Rattle.nfa_search_base.specs.Common.{span_of}
+use Rattle.nfa_paths.proofs.InsideLemmas.{half-within, match-within}
+use Rattle.nfa_search_base.specs.Common.{half_span_of, span_of}
 use Rattle.nfa_search_base.proofs.SkipLemmas.{from-scan}
 
 -- how many starts a search has at most
@@ -52,11 +53,29 @@ module _ (nfa : Automaton) (kind : MatchKind) (earliest : Bool) where
         }) in
         (omega (arith, k.0, k.1), k.2, omega (arith, few, k.0, k.1))
 
+    -- so does a half match
+    pub half-reaches : (h : HalfFound) → IsHalfAnswer nfa kind earliest x (Some h)
+        → Reaches x count (Some (half_span_of h))
+    half-reaches h a =
+        let few = within a.restarts a.path a.answers in
+        let k = half-within nfa kind earliest (raised x a.restarts) h (record {
+          restarts = 0;
+          path = a.path;
+          answers = from-scan nfa kind earliest x a.restarts a.path a.answers;
+          found_is = a.found_is;
+        }) in
+        (omega (arith, k.0), k.1, omega (arith, few, k.0))
+
   -- a match that no scan finds lies in the span
   pub match-known : (x : Search) (f : Found) → IsFindAnswer nfa kind earliest x (Some f)
       → Reaches x 0 (Some (span_of f))
   match-known x f a = let k = match-within nfa kind earliest x f a in
       (omega (arith, k.0, k.1), k.2, omega (arith, k.0, k.1))
+
+  -- so does such a half match
+  pub half-known : (x : Search) (h : HalfFound) → IsHalfAnswer nfa kind earliest x (Some h)
+      → Reaches x 0 (Some (half_span_of h))
+  half-known x h a = let k = half-within nfa kind earliest x h a in (k.0, k.1, omega (arith, k.0))
 
 -- one scan, where none restarts
 pub one-scan : (nfa : Automaton) (x : Search) (count : ℕ) → restarts_in nfa x ≡ false → count ≤ max_scans nfa x

@@ -2,7 +2,7 @@
 use Rattle.nfa_paths.proofs.Common.{◌∙◌, arith, refl}
 use Rattle.nfa_choice.proofs.FindLemmas.{KeepsChoice, keeps-self, keeps-then}
 use Rattle.nfa_meta.specs.RegexState.{KeepsRegex, RegexState}
-use Rattle.nfa_meta.specs.WindowRuns.{by_window}
+use Rattle.nfa_meta.specs.WindowRuns.{by_ends, by_window}
 
 pub regex_self : (r : RegexState) → KeepsRegex r r
 regex_self r = record {
@@ -23,3 +23,6 @@ regex_then a b c f g = record {
 -- and they keep its choice
 abbrev pub regex_keeps : KeepsChoice by_window
 regex_keeps = record { engines = λ a b keeps. keeps.engines; self = regex_self; then = regex_then }
+
+abbrev pub ends_keeps : KeepsChoice by_ends
+ends_keeps = record { engines = λ a b keeps. keeps.engines; self = regex_self; then = regex_then }

@@ -11,4 +11,4 @@ pub record CountsMatches (x : Search) (old new : RegexState) (count : ℕ) : Typ
   pub all : List Found
   pub are_all : AreMatches old.choice.nfa (kind_in old.choice) x.earliest x all
   pub count_is : count ≡ length all
-  pub work : WorksWithin (list_scan_limit old.choice.nfa x count) (2 * length old.choice.nfa.groups) x old new
+  pub list_work : WorksWithin (list_scan_limit old.choice.nfa x count) (2 * length old.choice.nfa.groups) x old new

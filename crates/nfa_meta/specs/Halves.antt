@@ -1,10 +1,12 @@
 -- The iterator over the half matches of a regex.
-use Rattle.std.specs.Prelude.{Option}
-use Rattle.nfa_search_base.specs.Common.{MutBor, Search, HalfMatch, GivesStepsWith, StepsWith}
+use Rattle.std.specs.Prelude.{◌≡◌, ◌+◌, ◌*◌, List, None, Option, length}
+use Rattle.nfa_search_base.specs.Common.{GivesKept, GivesStepsWith, HalfMatch, MutBor, Search, StepsWith, Yields, span_len}
+use Rattle.nfa_engines.specs.IterationLaws.{list_scan_limit}
 use Rattle.nfa_choice.specs.Iterations.{SearchesBy}
-use Rattle.nfa_choice.specs.HalfIterations.{HalvesLead, HalvesNextBy}
+use Rattle.nfa_choice.specs.HalfIterations.{HalvesNextBy}
 use Rattle.nfa_meta.specs.RegexState.{KeepsRegex, RegexState, pike_of}
 use Rattle.nfa_meta.specs.WindowRuns.{by_ends}
+use Rattle.nfa_meta.specs.Work.{WorksWithin}
 use Rattle.nfa_meta.specs.declared.regex.half_matches.ByEnds.{ByEnds}
 use Rattle.nfa_meta.specs.declared.regex.half_matches.HalfMatches.{HalfMatches}
 
@@ -28,7 +30,11 @@ halves_next s r t = HalvesNextBy pike_of FindsHalfAfterDfa half_steps s r t
 abbrev pub HalvesGiveKept : HalfMatches → Type 0
 HalvesGiveKept s = GivesStepsWith halves_next half_steps KeepsRegex s
 
--- The calls change the engine only by the searches of an iteration over x. At `None` the iteration went to its end,
--- past the half matches so far.
-abbrev pub HalvesBySearches : Search → HalfMatches → Type 0
-HalvesBySearches = HalvesLead pike_of FindsHalfAfterDfa half_steps
+-- The calls of an iterator over the half matches of x, and those up to its end, cost no more than the searches of an
+-- iteration and of a list. If the lazy DFA does not stop, no engine of the choice searches.
+pub record HalvesWorkWithin (x : Search) (s : HalfMatches) : Type 0 where
+  pub on : GivesKept halves_next (λ p q. WorksWithin (2 * span_len x + 3) 0 x p.regex.now q.regex.now) s
+  pub to_end : (xs : List HalfMatch) (t u : HalfMatches) → Yields halves_next s xs t → halves_next t None u
+      → WorksWithin (list_scan_limit s.regex.now.choice.nfa x (length xs)) 0 x s.regex.now u.regex.now
+  pub rests : GivesKept halves_next (λ p q. q.regex.now.stops ≡ p.regex.now.stops
+      → q.regex.now.choice ≡ p.regex.now.choice) s

@@ -13,7 +13,7 @@ ghost use Rattle.nfa_lazy_dfa.specs.Configs.{kind_in as config_kind, kind_of, nf
 ghost use Rattle.nfa_lazy_dfa.specs.Limits.{capacity_in, max_clears_in};
 ghost use Rattle.nfa_lazy_dfa.specs.Rows.{capacity_of, max_clears_of};
 ghost use Rattle.nfa_meta.specs.Built.{default_settings, regex_of, unsearched};
-ghost use Rattle.nfa_meta.specs.RegexState.{HasRoom, KeepsRegex, bytes_of};
+ghost use Rattle.nfa_meta.specs.RegexState.{KeepsRegex};
 ghost use Rattle.nfa_meta.specs.Work.{WorksWithin};
 
 mod at;
@@ -33,6 +33,7 @@ mod replace;
 mod rewrite;
 mod runs;
 mod search;
+mod shown;
 mod split;
 mod split_iter;
 mod start;
@@ -45,13 +46,13 @@ use crate::builder::{Config, Texts};
 pub use captures_iter::CapturesMatches;
 pub use find_iter::FindMatches;
 pub use half_matches::HalfMatches;
-use nfa_choice::choose::{Choice, Engine};
+use nfa_choice::choose::Choice;
 use nfa_engines::error::SearchError;
 use nfa_engines::pikevm;
 use nfa_facts::{Literals, records_match_spans};
 use nfa_lazy_dfa::{Cache, DFA};
 use nfa_onepass::OnePass;
-use regex_search_core::{GroupInfo, HalfMatch, Input, Match, MatchKind, NonMaxUsize, PatternID};
+use regex_search_core::{HalfMatch, Input, Match, MatchKind, NonMaxUsize, PatternID};
 pub use split_iter::{Split, SplitN};
 use std::alloc::Global;
 use std::marker::Model;
@@ -228,90 +229,6 @@ impl Regex {
             misses: 0,
             matched_at_literal: false,
         })
-    }
-
-    /// Returns the settings that the regex was built with. If it was built from an NFA, those of NFAs had no effect.
-    ///
-    /// ```
-    /// let config = Regex::config().hybrid_cache_capacity(100_000);
-    /// let regex = Regex::builder().configure(config).build(alloc, "fo+")?;
-    /// assert_eq!(rt; regex.get_config().hybrid_cache_capacity, 100_000);
-    /// ```
-    pub fn get_config(&self) -> Config
-        ensures config { result ≡ self.now.config }
-        ensures capacity { result.backtrack_visited_capacity ≡ self.now.choice.visited_capacity }
-    {
-        self.config
-    }
-
-    /// Returns the bytes that the rows of the lazy DFA, the entries of the caches of the [`Choice`] and sure steps
-    /// take. The sum saturates at `usize::MAX`. Rows and steps take no more than the settings allow.
-    ///
-    /// ```
-    /// // regex of "foo[0-9]+"
-    /// let before = regex.memory_usage();
-    /// regex.find_half(Input::new(b"foo12345"));
-    /// assert!(rt; regex.memory_usage() > before);
-    /// ```
-    pub fn memory_usage(&self) -> usize
-        ensures usage { result ≡ bytes_of self.now }
-        ensures capacity { HasRoom self.now }
-    {
-        let rows = self.cache.memory_usage();
-        let caches = self.choice.memory_usage().saturating_add(rows);
-        caches.saturating_add(self.one_pass.memory_usage())
-    }
-
-    /// Returns the NFA.
-    ///
-    /// ```
-    /// // regex of "foo(?<n>[0-9]+)"
-    /// assert_eq!(rt; regex.get_nfa().group_info().slot_len(), 4);
-    /// ```
-    pub fn get_nfa(&self) -> &NFA
-        ensures { result.now ≡ self.now.choice.nfa }
-    {
-        self.choice.get_nfa()
-    }
-
-    /// Returns the number of patterns.
-    ///
-    /// ```
-    /// // regex of [r"\pL+", r"\d+"]
-    /// assert_eq!(rt; regex.pattern_len(), 2);
-    /// ```
-    pub fn pattern_len(&self) -> usize
-        ensures { result ≡ length self.now.choice.nfa.patterns }
-    {
-        self.get_nfa().pattern_len()
-    }
-
-    /// Returns the groups of all patterns.
-    ///
-    /// ```
-    /// // regex of "foo(?<n>[0-9]+)"
-    /// assert_eq!(rt; regex.group_info().slot_len(), 4);
-    /// ```
-    pub fn group_info(&self) -> &GroupInfo
-        ensures { result.now ≡ self.now.choice.nfa.groups }
-    {
-        self.get_nfa().group_info()
-    }
-
-    /// Returns the engine of the [`Choice`] that gave the answer of its last search, including searches of an
-    /// iteration. Returns `None` if the [`Choice`] has given no answer so far.
-    ///
-    /// ```
-    /// // regex of "f(o*)(o*)"
-    /// assert!(rt; regex.is_match(Input::new(b"a foo")));
-    /// assert_eq!(rt; regex.ran(), None);
-    /// regex.search_slots(&Input::new(b"a foo"), &mut [None; 4]);
-    /// assert_eq!(rt; regex.ran(), Some(Engine::Backtracker));
-    /// ```
-    pub fn ran(&self) -> Option<Engine>
-        ensures { result ≡ self.now.choice.ran }
-    {
-        self.choice.ran()
     }
 
     /// Returns the match that a search of the input finds, in byte offsets into the haystack.

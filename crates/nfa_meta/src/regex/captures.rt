@@ -86,11 +86,12 @@ impl Regex {
         ensures holds { HoldsNoMore 0 self.old.choice.back self.new.choice.back }
         ensures keeps { KeepsRegex self.old self.new }
     {
-        if captures.slots().len() != 2 {
+        let slot_count = captures.slots().len();
+        if slot_count != 2 {
             self.fill_groups(input, captures);
             return captures_span(captures, Ok(()));
         }
-        if let Some(found) = self.quick_match(input, captures.slots().len()) {
+        if let Some(found) = self.quick_match(input, slot_count) {
             fill_captures(found, captures);
             return Some(found.span());
         }

@@ -24,8 +24,7 @@ impl Regex {
     ghost use Rattle.regex_search_core.specs.Search.{search_of};
     ghost use Rattle.nfa_choice.specs.HalfRuns.{HalvesGiven};
     ghost use Rattle.nfa_choice.specs.ChoiceState.{kind_in};
-    ghost use Rattle.nfa_meta.specs.Halves.{HalvesBySearches, HalvesGiveKept};
-    ghost use Rattle.nfa_meta.specs.Halves.{halves_regex, halves_next};
+    ghost use Rattle.nfa_meta.specs.Halves.{HalvesGiveKept, HalvesWorkWithin, halves_regex, halves_next};
 
     /// Returns an iterator over all half matches, from left to right: the patterns of the matches that the searches of
     /// an iteration find, and the offsets of their ends. Does not allocate.
@@ -47,8 +46,8 @@ impl Regex {
         // Each run of calls gives the first half matches of the input, and all of them if it goes on to `None`.
         ensures given { HalvesGiven self.entry.now.choice.nfa (kind_in self.entry.now.choice)
             (search_of input.entry) halves_next result }
-        // The engines change only by the searches of the steps.
-        ensures searches { HalvesBySearches (search_of input.entry) result }
+        // The engines work within the bounds of an iteration, and of a list at its end.
+        ensures work { HalvesWorkWithin (search_of input.entry) result }
         ensures keeps { HalvesGiveKept result }
     {
         HalfMatches {

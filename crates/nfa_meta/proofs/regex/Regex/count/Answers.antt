@@ -58,7 +58,7 @@ returns-clause-matches c =
       all = map found_of ms;
       are_all = all;
       count_is = omega (arith, length-map ms found_of, c.loop-found.invariant);
-      work = subst (λ (n : ℕ). WorksWithin (list_scan_limit nfa x n) (2 * length nfa.groups) x c.args.self.now
+      list_work = subst (λ (n : ℕ). WorksWithin (list_scan_limit nfa x n) (2 * length nfa.groups) x c.args.self.now
           c.next.new.self.regex.now) (sym c.loop-found.invariant) left;
     } in
     first_of (search (rules, fact), grind (arith, common_steps, fact))
