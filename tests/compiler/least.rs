@@ -7,7 +7,10 @@ use nfa_facts::Literals;
 
 /// Patterns, each with a shortest match.
 const SHORTEST: [(&str, &str); 12] = [
-    ("[ab]{50}", "ababababababababababababababababababababababababab"),
+    (
+        "[ab]{50}",
+        "ababababababababababababababababababababababababab",
+    ),
     (r"\d{4}-\d{2}-\d{2}", "2026-12-01"),
     (r"\w{12}", "twelve_bytes"),
     (r"\p{Greek}{4}", "λόγο"),
