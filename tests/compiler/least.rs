@@ -1,4 +1,4 @@
-//! A search of a span with fewer bytes than each match does not begin.
+//! A span with fewer bytes than each match of these patterns is not searched.
 
 use anyhow::Result;
 use nfa_compiler::Compiler;

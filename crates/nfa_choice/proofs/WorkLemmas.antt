@@ -12,7 +12,7 @@ use Rattle.nfa_choice.specs.HalfIterations.{HalvesOn, HalvesToEnd, TellsHalf}
 use Rattle.nfa_choice.specs.WorkLaws.{CapturesCostWithin, ChoiceAddsAtMost, FindsWithin, MatchesAreWithin, RowsAreWithin}
 use Rattle.nfa_choice.proofs.FindLemmas.{KeepsChoice, pike-kept}
 
--- what the half match of a search tells
+-- a half match that a search gives is in its span
 pub half-told : (vm : Pike) (y : Search) (a : Answer HalfFound) → TellsHalf vm y a
     → Hit vm.nfa (kind_of vm) y.earliest y (answer_span half_span_of a)
 half-told vm y (Ok (Some half)) h = half-hit vm.nfa (kind_of vm) y.earliest y half h

@@ -66,7 +66,7 @@ impl Literals {
     }
 
     /// Returns a position of the span before which no match starts, as far on as the literals say. Returns `None` if
-    /// they say that nothing matches, as where the span has fewer bytes than each match.
+    /// they say that nothing matches, as where the span has fewer bytes than they know each match to have.
     ///
     /// It is the first one at which the prefix of each match occurs. If that has fewer than two bytes, and the bytes
     /// that matches may have at their first positions are rare in usual text, it is one up to the first with these.
