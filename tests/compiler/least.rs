@@ -6,7 +6,7 @@ use nfa_engines::Input;
 use nfa_facts::Literals;
 
 /// Patterns, each with a shortest match.
-const SHORTEST: [(&str, &str); 12] = [
+const SHORTEST: [(&str, &str); 13] = [
     (
         "[ab]{50}",
         "ababababababababababababababababababababababababab",
@@ -15,8 +15,9 @@ const SHORTEST: [(&str, &str); 12] = [
     (r"\w{12}", "twelve_bytes"),
     (r"\p{Greek}{4}", "λόγο"),
     ("(?s:.){3}", "a\0b"),
-    ("a+bc", "abc"),
-    ("(?:ab)+c", "abc"),
+    (r"\w+\d{4}", "a0123"),
+    (r"(?:[a-z]{2}|\d{3})+?[^x]{4}", "abcdef"),
+    (r"[ab]*\d{5}", "01234"),
     ("foo|ba|quux", "ba"),
     ("(foo)?bar", "bar"),
     (r"\bword\b", "word"),

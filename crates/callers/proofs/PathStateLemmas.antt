@@ -1,27 +1,18 @@
 -- An answer is that of each input that asks for the same search, and what is found in a line of a text.
-use Rattle.std.proofs.Common.{◌≡◌, ℕ, ◌-◌, ◌<◌, ◌≤◌, false, List, Option, Some, take, drop, length, length-drop, get_or, subst, arith}
-use Rattle.std.proofs.lemmas.Bool.{lt-ltb}
+use Rattle.std.proofs.Common.{◌≡◌, ℕ, ◌-◌, ◌≤◌, false, List, Option, take, drop, length, length-drop, subst, arith}
 use Rattle.std.proofs.lemmas.List.{length-take-le}
-use Rattle.std.proofs.lemmas.Option.{slice_get-get_or}
 use Rattle.nfa_engines.specs.Found.{Found}
 use Rattle.nfa_engines.specs.Search.{Search, whole}
 use Rattle.nfa_engines.specs.Anchored.TheVariants.{No}
 use Rattle.nfa_engines.specs.MatchKind.{MatchKind}
 use Rattle.nfa_engines.specs.Automaton.{Automaton}
-use Rattle.nfa_engines.specs.Paths.{byte_at, IsFindAnswer}
+use Rattle.nfa_engines.specs.Paths.{IsFindAnswer}
 use Rattle.nfa_engines.specs.SpanLaws.{cut_out}
 use Rattle.callers.specs.Texts.{line_of}
 
 pub match_of_search : (nfa : Automaton) (kind : MatchKind) (x y : Search) (found : Option Found) → y ≡ x
     → IsFindAnswer nfa kind y.earliest y found → IsFindAnswer nfa kind x.earliest x found
 match_of_search nfa kind x y found same h = subst (λ (z : Search). IsFindAnswer nfa kind z.earliest z found) same h
-
--- the byte at a position before the end of the span
-pub read-inside : (x : Search) (at : ℕ) → at < x.end → x.end ≤ length x.haystack
-    → byte_at x at ≡ Some (get_or x.haystack at 0)
-read-inside x at less fits =
-    let inside : at < length x.haystack = omega arith in
-    rw (lt-ltb at x.end less) (slice_get-get_or x.haystack at 0 inside)
 
 -- what is found in the line alone is found in what is cut out
 pub of_cut : (nfa : Automaton) (kind : MatchKind) (text : List ℕ) (start end : ℕ) (found : Option Found) → start ≤ end

@@ -7,8 +7,8 @@ use Rattle.std.proofs.lemmas.List.Elements.{All-cons}
 use Rattle.std.proofs.lemmas.List.Folds.{drop_split}
 use Rattle.std.proofs.lemmas.List.Sums.{take_while-cons}
 use Rattle.std.proofs.lemmas.Slice.Zip.{AllZip-long}
-use Rattle.nfa_compiler.specs.Common.{IsMeant, IsTreeOf, Parsed, PatternHit, Matches, Re, Trace, Yes, AreMeant, accept, attempt, expected, found_at, found_of_hit, hit, hit_of, meaning, number_of, pick, pick_one, byte_syntax, res_of}
-use Rattle.nfa_compiler.proofs.EachLemmas.{LiesFrom, of-pick, pick_one-each}
+use Rattle.nfa_compiler.specs.Common.{IsMeant, IsTreeOf, Parsed, PatternHit, Matches, Re, Yes, AreMeant, accept, attempt, expected, found_at, found_of_hit, hit, hit_of, meaning, number_of, pick, pick_one, byte_syntax, res_of}
+use Rattle.nfa_compiler.proofs.EachLemmas.{LiesFrom, of-pick, pick_one-each, numbered}
 use Rattle.regex_hir.proofs.MatchesLemmas.{Matches-IsSpan}
 use Rattle.regex_search_core.specs.Found.{Found}
 use Rattle.regex_search_core.specs.declared.search.Anchored.{Anchored}
@@ -339,13 +339,10 @@ longest-next own n = rw (add-one n) refl
 
 module _ (res : List Re) (text : List ℕ) where
   -- the token of a rule has its number
-  numbered-hit : (k i : ℕ) (o : Option Trace) (h : PatternHit) → hit_of k i o ≡ Some h → h.pattern ≡ k
-  numbered-hit k i o h e = grind arith
-
   numbered-one : (k i : ℕ) (o : Option Re) (h : PatternHit)
       → option_and_then (λ re. hit_of k i (attempt text re accept i)) o ≡ Some h → h.pattern ≡ k
   numbered-one k i None h e = absurd (cc)
-  numbered-one k i (Some re) h e = numbered-hit k i (attempt text re accept i) h e
+  numbered-one k i (Some re) h e = numbered k i (attempt text re accept i) h e
 
   pub longest-token-is : (at : ℕ) → IsLongestOf (own_token res text at) (length res) (longest_there res text at)
   longest-token-is at = longest-is (own_token res text at)

@@ -1,12 +1,13 @@
 -- From the laws on searches of texts to the fields of a line, and the groups that are named.
 use Rattle.std.specs.declared.alloc.Global.{Global}
-use Rattle.nfa_paths.proofs.Common.{String, ◌≡◌, ◌∙◌, ℕ, ◌+◌, ◌≤◌, List, [], ◌∷◌, map, length, drop, refl, ap, arith, Option, None, Some, option_map, option_or, groups_at, slot_count, Captured, group_span, le-ltb, ◌++◌, sym, IsSomeAnd, chars, string_bytes, slice_get, AllZip, common_steps, ◌<◌, All, true, false, is_some, IsAnswer, LeftmostFirst, is_utf8_empty}
+use Rattle.nfa_paths.proofs.Common.{String, ◌≡◌, ◌∙◌, ℕ, ◌+◌, ◌≤◌, List, [], ◌∷◌, map, length, drop, refl, ap, arith, Option, None, Some, option_map, option_or, groups_at, slot_count, Captured, group_span, le-ltb, ◌++◌, sym, string_bytes, slice_get, AllZip, common_steps, ◌<◌, All, true, false, is_some, IsAnswer, LeftmostFirst, is_utf8_empty}
 use Rattle.nfa_engines.specs.Automaton.{Automaton}
 use Rattle.nfa_compiler.proofs.CallLemmas.{names-read}
-use Rattle.nfa_compiler.specs.Common.{Match, Re, Trace, accept, attempt, hit, captures_of, written_span, PatternHit, expected, hit_by, hit_of, slots_of, meaning, Hir, Nested, SameCaptures, Parsed, Names, group_count, read, Reads, IsCompiled, IsTreeOf, groups_of, IsNamed, byte_syntax, IsLeftmostToTheEnd}
+use Rattle.nfa_compiler.specs.Common.{Match, Trace, accept, attempt, hit, captures_of, written_span, PatternHit, expected, hit_by, hit_of, slots_of, Parsed, Names, read, Reads, IsCompiled, IsTreeOf, groups_of, IsNamed, byte_syntax, IsLeftmostToTheEnd}
 use Rattle.nfa_compiler.specs.Laws.{GroupsAreNamed, GroupsAreWritten, InBytes, TextsAreAnswered}
 use Rattle.log_extractor.specs.declared.pattern.Column.{Column}
 use Rattle.log_extractor.specs.Fields.{IsLinePattern, LinePattern, NamedGroup, columns_of, cut, fields_of, from_start, group_of, match_at_start, named_groups, row, columns_in}
+use Rattle.nfa_meta.proofs.NamesLemmas.{names-named}
 
 -- the hit of a search of a line from its start
 pub start-hit : (p : LinePattern) (nfa : Automaton) (line : List ℕ)
@@ -133,18 +134,9 @@ columns-read text tree names reads zero named =
     ∙ ap (λ (ns : Names). named_groups 1 (drop 1 ns))
     (names-read byte_syntax text tree.hir (map bytes_of tree.names.items) names reads named)
 
-named-one : (own : Names) (hir : Hir) (limit : ℕ) (o : Option (Nested Re × Names))
-    → IsSomeAnd o (λ (re, found). (re.depth ≤ limit) × SameCaptures (meaning hir) re.value × (own ≡ found)
-    × (group_count (meaning hir) ≤ length own))
-    → IsSomeAnd o (λ (_, found). found ≡ own)
-named-one own hir limit None is = absurd is
-named-one own hir limit (Some found) is = sym is.2
-
 tree-named : (text : List ℕ) (tree : Parsed) → IsTreeOf byte_syntax text tree
     → IsNamed byte_syntax text (map bytes_of tree.names.items)
-unfolding Reads
-tree-named text tree is =
-    named-one (map bytes_of tree.names.items) tree.hir byte_syntax.nest_limit (read byte_syntax (chars text)) is.reads
+tree-named text tree is = names-named byte_syntax text tree.hir (map bytes_of tree.names.items) is.reads
 
 -- the columns are the named groups of the NFA
 pub compiled-columns : (text : List ℕ) (nfa : Automaton) (columns : List NamedGroup)

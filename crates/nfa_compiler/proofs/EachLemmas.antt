@@ -186,7 +186,7 @@ module _ (res : List Re) (bound : Bool) (x : Search) (h : PatternHit) (whole : x
 
 -- its pattern
 
-numbered : (k i : ℕ) (o : Option Trace) (h : PatternHit) → hit_of k i o ≡ Some h → h.pattern ≡ k
+pub numbered : (k i : ℕ) (o : Option Trace) (h : PatternHit) → hit_of k i o ≡ Some h → h.pattern ≡ k
 numbered k i o h e = grind arith
 
 pick-known : (haystack : List ℕ) (res : List Re) (k i : ℕ) (h : PatternHit) → pick haystack res k i ≡ Some h

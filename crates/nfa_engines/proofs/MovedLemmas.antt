@@ -2,7 +2,7 @@
 use Rattle.regex_search_core.specs.declared.search.MatchKind.TheVariants.{All}
 use Rattle.nfa_paths.proofs.PathToLemmas.{PathTo-along}
 use Rattle.nfa_paths.proofs.SameScanLemmas.{Explored, explored}
-use Rattle.nfa_paths.proofs.MemberLemmas.{In-map}
+use Rattle.nfa_paths.proofs.MemberLemmas.{In-map, In-mapped}
 use Rattle.nfa_paths.proofs.Common.{◌≡◌, ℕ, ◌+◌, ◌↔◌, ◌∙◌, inl, inr, Bool, true, false, List, [], ◌∷◌, map, refl, ap, subst, arith, Option, None, Some, option_map, Automaton, MatchKind, Search, Pair, ComesBefore, WantedAt, PathTo, NoPath, Passes, IsFirstTo, IsEnd, IsLeastEnd, IsGreatestEnd, IsLastOfFirsts, IsScanAnswer, LeftmostFirst, sym, In, Earlier, HeadIs, NoRepeats, Linked, EndsWith, BeforeAfter}
 use Rattle.nfa_paths.proofs.FirstStartLemmas.{put-linked}
 
@@ -147,11 +147,6 @@ scan-moved nfa k x y same LeftmostFirst true (Some p) h =
     (h.0 + k, least-moved same h.0 h.1, first-moved same (those_at same h.0) p h.2)
 scan-moved nfa k x y same All false (Some p) h = (h.0 + k, greatest-moved same h.0 h.1, last-moved same h.0 p h.2)
 scan-moved nfa k x y same All true (Some p) h = (h.0 + k, least-moved same h.0 h.1, last-moved same h.0 p h.2)
-
--- what is in a mapped list is the image of an element
-pub In-mapped : {A B : Type 0} (f : A → B) (y : B) (xs : List A) → In y (map f xs) → (x : A) × In x xs × (y ≡ f x)
-In-mapped f y [] i = absurd i
-In-mapped f y (x ∷ xs) i = grind (arith, In-mapped f y xs)
 
 module _ (k : ℕ) where
   -- lists that move

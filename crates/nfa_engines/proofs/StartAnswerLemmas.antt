@@ -71,7 +71,7 @@ module _ (nfa : Automaton) (x : Search) (free : IsUnbound nfa x) where
 
   module _ (s : ℕ) (first : IsFirstStart nfa x s) where
     -- an accepting path starts there or later
-    starts-past : (m : Pair) (p : List Pair) (w : PathTo (edges nfa x) (starts nfa x) m p) → IsMatch nfa m
+    pub starts-past : (m : Pair) (p : List Pair) (w : PathTo (edges nfa x) (starts nfa x) m p) → IsMatch nfa m
         → s ≤ w.start.1
     starts-past m p w t =
         elim (cases_lt w.start.1 s) [
@@ -81,11 +81,11 @@ module _ (nfa : Automaton) (x : Search) (free : IsUnbound nfa x) where
           | inr past ↦ past
         ]
 
-    path-on : (m : Pair) (p : List Pair) → PathTo (edges nfa x) (starts nfa x) m p → IsMatch nfa m
+    pub path-on : (m : Pair) (p : List Pair) → PathTo (edges nfa x) (starts nfa x) m p → IsMatch nfa m
         → PathTo (edges nfa x) (starts nfa (from_start x s)) m p
     path-on m p w t = path-from x.start s m p w (starts-past m p w t)
 
-    path-back : (m : Pair) (p : List Pair) → PathTo (edges nfa x) (starts nfa (from_start x s)) m p → IsMatch nfa m
+    pub path-back : (m : Pair) (p : List Pair) → PathTo (edges nfa x) (starts nfa (from_start x s)) m p → IsMatch nfa m
         → PathTo (edges nfa x) (starts nfa x) m p
     path-back m p w t =
         let past : s ≤ w.start.1 = (start-unanchored nfa x free s w.start w.among).from in
@@ -163,16 +163,16 @@ answer-start nfa x pattern slots free h =
     (scan.path.start.1, grind (arith, first-start nfa x free a.path scan, at.within, a, answers))
 
 -- the NFA without its UTF-8 mode, with the same paths
-abbrev of-bytes : Automaton → Automaton
+abbrev pub of-bytes : Automaton → Automaton
 of-bytes nfa = record nfa { utf8 = false }
 
 never-whole : (nfa : Automaton) → is_utf8_empty (of-bytes nfa) ≡ false
 never-whole nfa = grind arith
 
-free-of-bytes : (nfa : Automaton) (x : Search) → StartsAnywhere nfa x → IsUnbound (of-bytes nfa) x
+pub free-of-bytes : (nfa : Automaton) (x : Search) → StartsAnywhere nfa x → IsUnbound (of-bytes nfa) x
 free-of-bytes nfa x starts = grind (arith, never-whole)
 
-first-of-bytes : (nfa : Automaton) (x : Search) (s : ℕ) → IsFirstStart nfa x s → IsFirstStart (of-bytes nfa) x s
+pub first-of-bytes : (nfa : Automaton) (x : Search) (s : ℕ) → IsFirstStart nfa x s → IsFirstStart (of-bytes nfa) x s
 unfolding node_at
 first-of-bytes nfa x s first = record {
   from = first.from;
@@ -180,7 +180,7 @@ first-of-bytes nfa x s first = record {
 }
 
 module _ (nfa : Automaton) (x : Search) (starts : StartsAnywhere nfa x) (s : ℕ) (first : IsFirstStart nfa x s) where
-  scan-first : (p : List Pair) → IsScanAnswer nfa (anchored_at x s) LeftmostFirst false (Some p)
+  pub scan-first : (p : List Pair) → IsScanAnswer nfa (anchored_at x s) LeftmostFirst false (Some p)
       → IsScanAnswer nfa x LeftmostFirst false (Some p)
   unfolding node_at
   scan-first p h =

@@ -1,7 +1,8 @@
 -- Positions whose bytes no match begins with are passed over.
 use Rattle.std.proofs.lemmas.List.Edits.{get_or-between}
 use Rattle.memchr.specs.Find.{Nowhere, Passes}
-use Rattle.nfa_paths.proofs.Common.{All, ◌≡◌, ◌∙◌, ℕ, ◌+◌, ◌-◌, ◌<◌, ◌≤◌, ◌⊎◌, inl, inr, List, ap, subst, arith, false, cases_lt, false_from_ne_true, get_or, length, lt-ltb, slice_get-get_or, slice_range, IfNone, IfSome, None, Option, Some, Search, Automaton, byte_at}
+use Rattle.nfa_paths.proofs.Common.{All, ◌≡◌, ◌∙◌, ℕ, ◌+◌, ◌-◌, ◌<◌, ◌≤◌, ◌⊎◌, inl, inr, List, ap, subst, arith, false, cases_lt, false_from_ne_true, get_or, length, slice_range, IfNone, IfSome, None, Option, Some, Search, Automaton}
+use Rattle.nfa_paths.proofs.StartLemmas.{byte_at-inside}
 use Rattle.nfa_engines.specs.StartLaws.{IsFirstStart, NothingAtByte}
 use Rattle.nfa_facts.specs.FewBytes.{BeginsAmong, LacksBetween, is_among}
 use Rattle.nfa_facts.specs.declared.literal.few_bytes.FewBytes.{FewBytes}
@@ -29,13 +30,6 @@ lacks-up-to few haystack from end count within fits none = record {
       (none (k - from) (omega arith) (omega arith)));
 }
 
--- the byte before the end of the span
-read-here : (x : Search) (at : ℕ) → at < x.end → x.end ≤ length x.haystack
-    → byte_at x at ≡ Some (get_or x.haystack at 0)
-read-here x at less fits =
-    let inside : at < length x.haystack = omega arith in
-    rw (lt-ltb at x.end less) (slice_get-get_or x.haystack at 0 inside)
-
 -- a start before which nothing matches moves past bytes that no match begins with
 pub others-passed : (nfa : Automaton) (x : Search) (few : FewBytes) (from at : ℕ) → NothingAtByte
     → BeginsAmong nfa few → x.end ≤ length x.haystack → All (λ b. b < 256) x.haystack
@@ -52,6 +46,6 @@ others-passed nfa x few from at nothing among fits small first onward within lac
                 let inside : i < x.end = elim within [ inl to ↦ omega arith | inr same ↦ omega arith ] in
                 nothing nfa x i (get_or x.haystack i 0)
                 (among.others (get_or x.haystack i 0) (small i 0 (omega arith)) (lacks.none i past less))
-                (read-here x i inside fits)
+                (byte_at-inside x i inside fits)
           ];
     }

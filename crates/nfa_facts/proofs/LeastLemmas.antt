@@ -1,17 +1,16 @@
 -- Each accepting path has at least the bytes that the numbers of its states say.
-use Rattle.nfa_paths.proofs.Common.{◌≡◌, ◌∙◌, ℕ, suc, ◌+◌, ◌<◌, ◌≤◌, List, [], ◌∷◌, length, map, inl, inr, get_or, set, refl, sym, subst, arith, All, Option, None, Some, Bool, true, false, IfSome, if◌then◌else◌, slice_get_within, get_or_from_slice_get, ap, get_or-map, get_or_default, get_or-set_other, get_or-set_same, length-set, length-map, is_some, option_map, option_to_list, ℕ_discrete, cases_Bool, Search, Automaton, IsAutomaton, LeadsBelow, Node, Pair, Transition, In, HeadIs, Linked, EndsWith, Dense, Fail, Sparse, byte_at, edges, edges_of, epsilon_states, first_target, holding_at, holds_byte, node_at, node_of, pattern_of, rests, target_on, IsMatch}
-use Rattle.std.proofs.Common.{max}
+use Rattle.nfa_paths.proofs.Common.{◌≡◌, ◌∙◌, ℕ, suc, ◌+◌, ◌<◌, ◌≤◌, List, [], ◌∷◌, length, map, inl, inr, get_or, refl, sym, subst, arith, All, Option, None, Some, Bool, true, false, IfSome, if◌then◌else◌, slice_get_within, get_or_from_slice_get, ap, get_or-map, get_or_default, length-map, is_some, Search, Automaton, IsAutomaton, LeadsBelow, Node, Pair, Transition, In, HeadIs, Linked, EndsWith, Dense, Fail, Sparse, edges, edges_of, epsilon_states, first_target, holding_at, holds_byte, node_at, node_of, pattern_of, IsMatch, cases_lt}
 use Rattle.thompson_nfa.specs.declared.state.State.{State}
 use Rattle.nfa_paths.proofs.FirstStartLemmas.{start-anchored}
 use Rattle.nfa_paths.proofs.MemberLemmas.{All-In, same_some}
-use Rattle.nfa_paths.proofs.StartLemmas.{byte_at-within, byte_pairs, epsilon-all, epsilon-edges, resting-edges}
-use Rattle.nfa_scan_core.specs.FirstBytes.{epsilon_targets}
+use Rattle.nfa_paths.proofs.StartLemmas.{byte_at-within, epsilon-all}
+use Rattle.nfa_paths.proofs.EdgeLemmas.{edge-is}
 use Rattle.nfa_engines.specs.Laws.{MatchesNothing}
 use Rattle.nfa_engines.specs.StartLaws.{anchored_at, IsUnbound}
-use Rattle.nfa_engines.proofs.MovedLemmas.{In-mapped}
 use Rattle.nfa_engines.proofs.StartAnswerLemmas.{nothing-of}
 use Rattle.nfa_facts.specs.LeastLengths.{AreLeastLengths, HasLeast, IsLeastOf}
 use Rattle.nfa_facts.proofs.ReachedLemmas.{dense-get}
+use Rattle.std.proofs.lemmas.List.{get_or_past}
 
 -- paths
 
@@ -21,41 +20,21 @@ module _ (nfa : Automaton) (x : Search) (lengths : List ℕ) where
     within : at ≤ x.end → w.1 ≤ x.end
     least : at + n ≤ w.1 + get_or lengths w.0 0
 
-  over-byte : (node : Node) (at n : ℕ) (w : Pair) → IsLeastOf lengths node n
-      → In w (byte_pairs node at (byte_at x at)) → StepsTo n at w
-  over-byte node at n w h i = read (byte_at x at) refl i
-    where
-      target : (b : ℕ) → byte_at x at ≡ Some b → (t : Option ℕ) → target_on node b ≡ t
-          → In w (option_to_list (option_map (λ next. (next, at + 1)) t)) → StepsTo n at w
-      target b e None none i = absurd i
-      target b e (Some t) some (inl same) =
-          let inside : at < x.end = byte_at-within x at b e in
-          let one : n ≤ get_or lengths t 0 + 1 = h.over b t some in
-          let next : at + 1 ≤ x.end = omega arith in
-          let more : at + n ≤ at + 1 + get_or lengths t 0 = omega arith in
-          subst (StepsTo n at) (sym same) (record { within = λ low. next; least = more })
-      target b e (Some t) some (inr never) = absurd never
-
-      read : (o : Option ℕ) → byte_at x at ≡ o → In w (byte_pairs node at o) → StepsTo n at w
-      read None e i = absurd i
-      read (Some b) e i = target b e (target_on node b) refl i
-
-  without-byte : (node : Node) (at n : ℕ) (w : Pair) → IsLeastOf lengths node n
-      → In w (map (λ s. (s, at)) (epsilon_states (holding_at x.haystack at) node)) → StepsTo n at w
-  without-byte node at n w h i =
-      let states = epsilon_states (holding_at x.haystack at) node in
-      let all = epsilon-all (λ s. n ≤ get_or lengths s 0) (holding_at x.haystack at) node h.without in
-      let of = In-mapped (λ s. (s, at)) w states i in
-      let least : n ≤ get_or lengths of.0 0 = All-In (λ s. n ≤ get_or lengths s 0) states all of.0 of.1 in
-      let more : at + n ≤ at + get_or lengths of.0 0 = omega arith in
-      subst (StepsTo n at) (sym of.2) (record { within = λ low. low; least = more })
-
   edge-step : (node : Node) (at n : ℕ) (w : Pair) → IsLeastOf lengths node n → In w (edges_of x node at)
       → StepsTo n at w
   edge-step node at n w h i =
-      elim (cases_Bool (rests node)) [
-        | inl rest ↦ over-byte node at n w h (rw (resting-edges x node at rest) at i)
-        | inr leads ↦ without-byte node at n w h (rw (epsilon-edges x node at leads) at i)
+      elim (edge-is x node at w i) [
+        | inl stays ↦
+            let states = epsilon_states (holding_at x.haystack at) node in
+            let all = epsilon-all (λ s. n ≤ get_or lengths s 0) (holding_at x.haystack at) node h.without in
+            let least : n ≤ get_or lengths w.0 0 = All-In (λ s. n ≤ get_or lengths s 0) states all w.0 stays.1 in
+            let same : w.1 ≡ at = stays.0 in
+            record { within = λ low. omega (arith, same); least = omega arith }
+        | inr over ↦
+            let next : w.1 ≡ at + 1 = over.next in
+            let inside : at < x.end = byte_at-within x at over.byte over.is in
+            let one : n ≤ get_or lengths w.0 0 + 1 = h.over over.byte w.0 over.target in
+            record { within = λ low. omega (arith, next, inside); least = omega arith }
       ]
 
   -- the span has the bytes of the first state of each path to a match
@@ -98,51 +77,36 @@ nothing-in-fewer nfa x least free has fewer =
           absurd (omega arith);
     })
 
+-- and 0 bytes at least
+pub HasLeast-none : (nfa : Automaton) → HasLeast nfa 0
+HasLeast-none nfa = record {
+  fits = λ x at some. omega (arith, (start-anchored nfa x at some.path.start some.path.among).within);
+}
+
 -- lists of numbers
 
--- a number that rises
-rises : (a : List ℕ) (i n s : ℕ) → i < length a → get_or a i 0 ≤ n → get_or a s 0 ≤ get_or (set a i n) s 0
-rises a i n s inside high =
-    elim (ℕ_discrete s i) [
-      | yes same ↦ subst (λ j. get_or a j 0 ≤ get_or (set a i n) j 0) (sym same)
-          (rw (get_or-set_same a i n 0 inside) high)
-      | no other ↦ omega (arith, get_or-set_other a i s n 0 other)
-    ]
-
-IsLeastOf-more : {a b : List ℕ} {node : Node} {n : ℕ} → ((s : ℕ) → get_or a s 0 ≤ get_or b s 0)
-    → IsLeastOf a node n → IsLeastOf b node n
-IsLeastOf-more {node = node} more h = record {
-  ends = h.ends;
-  without = λ k d less. omega (arith, h.without k d less, more (get_or (epsilon_targets node) k d));
-  over = λ b t e. omega (arith, h.over b t e, more t);
+-- a lower number
+pub IsLeastOf-fewer : {a : List ℕ} {node : Node} {m n : ℕ} → m ≤ n → IsLeastOf a node n → IsLeastOf a node m
+IsLeastOf-fewer few h = record {
+  ends = λ is. omega (arith, h.ends is, few);
+  without = λ k d less. omega (arith, h.without k d less, few);
+  over = λ b t e. omega (arith, h.over b t e, few);
 }
 
-IsLeastOf-max : {a : List ℕ} {node : Node} {m n : ℕ} → IsLeastOf a node m → IsLeastOf a node n
-    → IsLeastOf a node (max m n)
-IsLeastOf-max g h = record {
-  ends = λ is. omega (arith, g.ends is, h.ends is);
-  without = λ k d less. omega (arith, g.without k d less, h.without k d less);
-  over = λ b t e. omega (arith, g.over b t e, h.over b t e);
+-- beyond the states each number is 0
+pub AreLeastLengths-all : (nfa : Automaton) (a : List ℕ) → length a ≡ length nfa.states
+    → ((s : ℕ) → s < length nfa.states → IsLeastOf a (node_at nfa s) (get_or a s 0)) → AreLeastLengths nfa a
+AreLeastLengths-all nfa a size all = record {
+  size = size;
+  each = λ s.
+      elim (cases_lt s (length nfa.states)) [
+        | inl less ↦ all s less
+        | inr past ↦ subst (IsLeastOf a (node_at nfa s)) (sym (get_or_past a s 0 (omega (arith, size, past)))) none
+      ];
 }
-
--- one state's number rises to that of its targets
-pub AreLeastLengths-raised : (nfa : Automaton) (a : List ℕ) (i m : ℕ) → i < length a → AreLeastLengths nfa a
-    → IsLeastOf a (node_at nfa i) m → AreLeastLengths nfa (set a i (max m (get_or a i 0)))
-AreLeastLengths-raised nfa a i m inside all here =
-    let n = max m (get_or a i 0) in
-    let high : get_or a i 0 ≤ n = omega arith in
-    let more : (s : ℕ) → get_or a s 0 ≤ get_or (set a i n) s 0 = λ s. rises a i n s inside high in
-    record {
-      size = length-set a i n ∙ all.size;
-      each = λ s.
-          elim (ℕ_discrete s i) [
-            | yes same ↦ subst (λ j. IsLeastOf (set a i n) (node_at nfa j) (get_or (set a i n) j 0)) (sym same)
-                (subst (IsLeastOf (set a i n) (node_at nfa i)) (sym (get_or-set_same a i n 0 inside))
-                (IsLeastOf-more more (IsLeastOf-max here (all.each i))))
-            | no other ↦ subst (IsLeastOf (set a i n) (node_at nfa s)) (sym (get_or-set_other a i s n 0 other))
-                (IsLeastOf-more more (all.each s))
-          ];
-    }
+  where
+    none : {node : Node} → IsLeastOf a node 0
+    none = record { ends = λ is. refl; without = λ k d less. omega arith; over = λ b t e. omega arith }
 
 -- numbers of states
 

@@ -1,13 +1,13 @@
 -- Each accepting path reads a byte of each level in turn, and what that means for a search.
 use Rattle.std.proofs.lemmas.List.{get_or-set_other, get_or-set_same}
 use Rattle.std.proofs.lemmas.List.Edits.{get_or-between, length-between}
-use Rattle.nfa_paths.proofs.Common.{◌≡◌, ◌∙◌, ℕ, suc, ◌+◌, ◌-◌, ◌<◌, ◌≤◌, ◌⊎◌, inl, inr, List, [], ◌∷◌, length, map, get_or, set, slice_range, refl, sym, ap, subst, arith, All, Option, None, Some, Bool, true, false, slice_get, slice_get_within, get_or_from_slice_get, is_some, option_map, option_to_list, below_more, cases_Bool, cases_lt, Search, Automaton, Node, Pair, In, HeadIs, Linked, EndsWith, byte_at, edges, edges_of, epsilon_states, holding_at, node_at, pattern_of, reads_byte, rests, target_on, IsMatch, ByteRange, Dense, Sparse, Transition, first_target, holds_byte, if◌then◌else◌}
+use Rattle.nfa_paths.proofs.Common.{◌≡◌, ◌∙◌, ℕ, suc, ◌+◌, ◌-◌, ◌<◌, ◌≤◌, ◌⊎◌, inl, inr, List, [], ◌∷◌, length, get_or, set, slice_range, refl, sym, ap, subst, arith, All, None, Some, Bool, true, false, slice_get, slice_get_within, get_or_from_slice_get, is_some, below_more, cases_lt, Search, Automaton, Node, Pair, In, HeadIs, Linked, EndsWith, byte_at, edges, edges_of, epsilon_states, holding_at, node_at, pattern_of, reads_byte, target_on, IsMatch, ByteRange, Dense, Sparse, Transition, first_target, holds_byte, if◌then◌else◌}
 use Rattle.nfa_paths.proofs.FirstStartLemmas.{start-anchored}
 use Rattle.nfa_paths.proofs.MemberLemmas.{All-In}
-use Rattle.nfa_paths.proofs.StartLemmas.{byte_at-within, byte_pairs, epsilon-all, epsilon-edges, resting-edges}
+use Rattle.nfa_paths.proofs.StartLemmas.{byte_at-within, epsilon-all}
+use Rattle.nfa_paths.proofs.EdgeLemmas.{edge-is}
 use Rattle.nfa_engines.specs.Laws.{MatchesNothing, MatchesSomething}
 use Rattle.nfa_engines.specs.StartLaws.{anchored_at, IsFirstStart, IsUnbound}
-use Rattle.nfa_engines.proofs.MovedLemmas.{In-mapped}
 use Rattle.nfa_engines.proofs.StartAnswerLemmas.{nothing-of}
 use Rattle.regex_literal.specs.Levels.{FitsLevels}
 use Rattle.nfa_facts.specs.declared.literal.levels.Levels.{Levels}
@@ -59,43 +59,24 @@ module _ (nfa : Automaton) (x : Search) where
         let inside : at < length x.haystack = slice_get_within x.haystack at b read in
         subst (λ c. c < 256) (get_or_from_slice_get x.haystack at b b read) (small at b inside)
 
-    over-byte : (node : Node) (at : ℕ) (w : Pair) → IsFilled here nexts level node
-        → In w (byte_pairs node at (byte_at x at)) → Step at w
-    over-byte node at w h i = read (byte_at x at) refl i
-      where
-        target : (b : ℕ) → byte_at x at ≡ Some b → (t : Option ℕ) → target_on node b ≡ t
-            → In w (option_to_list (option_map (λ next. (next, at + 1)) t)) → Step at w
-        target b e None none i = absurd i
-        target b e (Some t) some (inl same) =
-            inl (record {
-              byte = record { byte = b; read = e; has = h.reads.bytes b t (small-read at b e) some };
-              onward = ap (λ (z : Pair). z.1) same;
-              there = subst (λ (z : Pair). In z.0 nexts) (sym same)
-                  (h.over.others b t (λ never. absurd (cc never)) some);
-            })
-        target b e (Some t) some (inr never) = absurd never
-
-        read : (o : Option ℕ) → byte_at x at ≡ o → In w (byte_pairs node at o) → Step at w
-        read None e i = absurd i
-        read (Some b) e i = target b e (target_on node b) refl i
-
-    without-byte : (node : Node) (at : ℕ) (w : Pair) → IsFilled here nexts level node
-        → In w (map (λ s. (s, at)) (epsilon_states (holding_at x.haystack at) node)) → Step at w
-    without-byte node at w h i =
-        let all = epsilon-all (λ s. In s here) (holding_at x.haystack at) node h.without in
-        let of = In-mapped (λ s. (s, at)) w (epsilon_states (holding_at x.haystack at) node) i in
-        inr (
-          ap (λ (z : Pair). z.1) of.2,
-          subst (λ (z : Pair). In z.0 here) (sym of.2)
-              (All-In (λ s. In s here) (epsilon_states (holding_at x.haystack at) node) all of.0 of.1),
-        )
-
     edge-step : (node : Node) (at : ℕ) (w : Pair) → IsFilled here nexts level node → In w (edges_of x node at)
         → Step at w
     edge-step node at w h i =
-        elim (cases_Bool (rests node)) [
-          | inl rest ↦ over-byte node at w h (rw (resting-edges x node at rest) at i)
-          | inr leads ↦ without-byte node at w h (rw (epsilon-edges x node at leads) at i)
+        elim (edge-is x node at w i) [
+          | inl stays ↦
+              let states = epsilon_states (holding_at x.haystack at) node in
+              let all = epsilon-all (λ s. In s here) (holding_at x.haystack at) node h.without in
+              inr (stays.0, All-In (λ s. In s here) states all w.0 stays.1)
+          | inr over ↦
+              inl (record {
+                byte = record {
+                  byte = over.byte;
+                  read = over.is;
+                  has = h.reads.bytes over.byte w.0 (small-read at over.byte over.is) over.target;
+                };
+                onward = over.next;
+                there = h.over.others over.byte w.0 (λ never. absurd (cc never)) over.target;
+              })
         ]
 
     -- each path from one of the states to a match reads a byte of the level first

@@ -1,5 +1,5 @@
 -- States that were reached, and those that a state leads to without one of the bytes.
-use Rattle.nfa_paths.proofs.Common.{◌≡◌, ◌∙◌, ℕ, zero, suc, ◌<◌, ◌≤◌, ◌⊎◌, inl, inr, List, [], ◌∷◌, ◌++◌, length, get_or, set, replicate, refl, sym, ap, subst, arith, All, Bool, true, false, Option, None, Some, Result, Ok, Err, IfOk, OnOk, is_some, if◌then◌else◌, option_and_then, slice_get, ℕ_discrete, append-nil, append_assoc, length-append, length-set, get_or-set_other, In, Node, Transition, ByteRange, Sparse, Dense, Union, BinaryUnion, first_target, holds_byte, target_on}
+use Rattle.nfa_paths.proofs.Common.{◌≡◌, ◌∙◌, ℕ, zero, suc, ◌<◌, ◌≤◌, ◌⊎◌, inl, inr, List, [], ◌∷◌, ◌++◌, length, get_or, set, refl, sym, ap, subst, arith, All, Bool, true, false, Option, None, Some, Result, Ok, Err, IfOk, OnOk, is_some, if◌then◌else◌, option_and_then, slice_get, ℕ_discrete, append-nil, append_assoc, length-append, length-set, get_or-set_other, In, Node, Transition, ByteRange, Sparse, Dense, Union, BinaryUnion, first_target, holds_byte, target_on}
 use Rattle.std.proofs.lemmas.List.{get_or_append_left}
 use Rattle.nfa_paths.proofs.MemberLemmas.{In-append, In-append_left, In-append_right, same_some}
 use Rattle.nfa_facts.specs.Reached.{AddsTo, AreMarked, HasOtherTargets, HasTargets}
@@ -34,12 +34,6 @@ each-in P (x ∷ xs) all s (inl e) = subst P (sym e) (all 0 (omega arith))
 each-in P (x ∷ xs) all s (inr i) = each-in P xs (λ k less. all (suc k) (omega arith)) s i
 
 -- marks
-
--- nothing is marked at first
-pub unmarked : (n s : ℕ) → get_or (replicate n false) s false ≡ true → ⊥
-unmarked zero s e = cc
-unmarked (suc n) zero e = cc
-unmarked (suc n) (suc s) e = unmarked n s e
 
 -- one state more is marked, and listed
 pub AreMarked-more : (marks : List Bool) (states : List ℕ) (s : ℕ) → s < length marks → AreMarked marks states

@@ -1,7 +1,6 @@
 -- The steps of a search for a way that does not write its bounds.
 use Rattle.nfa_paths.proofs.Common.{◌≡◌, ℕ, suc, zero, ◌+◌, ◌<◌, ◌≤◌, inl, inr, List, [], ◌∷◌, ◌++◌, length, take, refl, ap, sym, ◌∙◌, arith, subst, below_more, Option, Some, None, false, Bool, All, IfSome, IsTrue, ◌↔◌, filter_map, slice_get, take_more, take_all, take-append-le, length-append, get_or_from_slice_get, slice_get_within, Pattern, number_of, PatternID, Automaton, Node, LeadsBelow, In, node_at, pattern_of, Transition, Sparse, Dense, Union}
-use Rattle.nfa_paths.proofs.MemberLemmas.{In-append, In-append_left, All-In}
-use Rattle.nfa_engines.proofs.MovedLemmas.{In-mapped}
+use Rattle.nfa_paths.proofs.MemberLemmas.{In-append, In-append_left, All-In, In-mapped}
 use Rattle.nfa_paths.specs.StatePaths.{targets, IsStart}
 use Rattle.nfa_facts.specs.PathStates.{fresh_path_state, at_state, after_node, next_places, is_recorded, IsFresh, GainsPathStates, IsFine, IsClosed, IsUnderWay, IsLedTo}
 use Rattle.nfa_facts.proofs.StatePathLemmas.{IsLedTo-fresh, IsLedTo-next}

@@ -3,10 +3,9 @@ use Rattle.nfa_paths.proofs.Common.{ℕ_discrete, ◌≡◌, ℕ, ◌+◌, ◌*�
 use Rattle.nfa_paths.specs.StatePaths.{reads, position_after, targets, open_edges, IsStatePath, PatternRecordsMatchSpans, RecordsMatchSpans}
 use Rattle.nfa_facts.specs.PathStates.{fresh_path_state, at_state, after_node, Describes, next_places, is_recorded, IsFresh, IsLedTo, IsClosed, path_state_number, IsTable, GainsPathStates}
 use Rattle.nfa_facts.specs.declared.match_spans.path_state.PathState.{PathState}
-use Rattle.nfa_paths.proofs.MemberLemmas.{option_or-None, option_or-assoc, In-map, In-append, In-append_left, In-append_right}
+use Rattle.nfa_paths.proofs.MemberLemmas.{option_or-None, option_or-assoc, In-map, In-append, In-append_left, In-append_right, In-mapped}
 use Rattle.nfa_paths.proofs.PathToLemmas.{EndsWith-last}
 use Rattle.nfa_paths.proofs.PatternLemmas.{node-pattern}
-use Rattle.nfa_engines.proofs.MovedLemmas.{In-mapped}
 
 -- the value of the slot after the state, which is at this position
 abbrev pub written : Node → ℕ → ℕ → Option ℕ → Option ℕ

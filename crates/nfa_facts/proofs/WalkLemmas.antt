@@ -1,8 +1,8 @@
 -- Each accepting path is cut where a walk may not pass that reaches no match.
-use Rattle.nfa_paths.proofs.Common.{◌≡◌, ◌∙◌, ℕ, ◌+◌, ◌<◌, ◌≤◌, ◌⊎◌, inl, inr, List, [], ◌∷◌, length, map, get_or, refl, sym, ap, subst, arith, Option, None, Some, Bool, true, slice_get, is_some, option_map, option_to_list, below_more, cases_Bool, cases_lt, Search, Automaton, Node, Pair, In, HeadIs, Linked, EndsWith, byte_at, edges, edges_of, epsilon_states, holding_at, node_at, pattern_of, rests, target_on, IsMatch}
+use Rattle.nfa_paths.proofs.Common.{◌≡◌, ◌∙◌, ℕ, ◌+◌, ◌<◌, ◌≤◌, ◌⊎◌, inl, inr, List, [], ◌∷◌, length, get_or, refl, sym, ap, subst, arith, None, Some, Bool, true, slice_get, is_some, below_more, cases_lt, Search, Automaton, Node, Pair, In, HeadIs, Linked, EndsWith, byte_at, edges, edges_of, epsilon_states, holding_at, node_at, pattern_of, target_on, IsMatch}
 use Rattle.nfa_paths.proofs.MemberLemmas.{All-In}
-use Rattle.nfa_paths.proofs.StartLemmas.{byte_at-within, byte_pairs, epsilon-all, epsilon-edges, resting-edges}
-use Rattle.nfa_engines.proofs.MovedLemmas.{In-mapped}
+use Rattle.nfa_paths.proofs.StartLemmas.{byte_at-within, epsilon-all}
+use Rattle.nfa_paths.proofs.EdgeLemmas.{edge-is}
 use Rattle.nfa_facts.specs.Reached.{AddsTo}
 use Rattle.nfa_facts.specs.Walks.{IsPassable, IsPassed, IsUnderWay, IsWalked, byte_of, state_of}
 use Rattle.nfa_facts.specs.declared.literal.walk.Cut.{Cut}
@@ -28,51 +28,29 @@ module _ (nfa : Automaton) (cut : Cut) (on_line : Bool) (states : List ℕ) (x :
   abbrev Step : ℕ → Pair → Type 0
   Step at w = ReadsCut at ⊎ (ReadsOther at w ⊎ ((w.1 ≡ at) × In w.0 states))
 
-  over-byte : (node : Node) (at : ℕ) (w : Pair) → IsPassed (byte_of cut) on_line states node
-      → In w (byte_pairs node at (byte_at x at)) → Step at w
-  over-byte node at w h i = read (byte_at x at) refl i
-    where
-      target : (b : ℕ) → byte_at x at ≡ Some b → (t : Option ℕ) → target_on node b ≡ t
-          → In w (option_to_list (option_map (λ next. (next, at + 1)) t)) → Step at w
-      target b e None none i = absurd i
-      target b e (Some t) some (inl same) =
-          elim (tell (byte_of cut) b) [
-            | inl is ↦ inl (record { byte = b; is = is; read = e })
-            | inr other ↦ inr (inl (record {
-              byte = b;
-              read = e;
-              onward = ap (λ (z : Pair). z.1) same;
-              there = subst (λ (z : Pair). In z.0 states) (sym same)
-                  (h.targets.over.others b t (λ same. other (sym same)) some);
-              line = λ l ten.
-                  let none : target_on node 10 ≡ None = h.line l in
-                  let here : target_on node 10 ≡ Some t = subst (λ c. target_on node c ≡ Some t) ten some in
-                  absurd (cc (none, here));
-            }))
-          ]
-      target b e (Some t) some (inr never) = absurd never
-
-      read : (o : Option ℕ) → byte_at x at ≡ o → In w (byte_pairs node at o) → Step at w
-      read None e i = absurd i
-      read (Some b) e i = target b e (target_on node b) refl i
-
-  without-byte : (node : Node) (at : ℕ) (w : Pair) → IsPassed (byte_of cut) on_line states node
-      → In w (map (λ s. (s, at)) (epsilon_states (holding_at x.haystack at) node)) → Step at w
-  without-byte node at w h i =
-      let all = epsilon-all (λ s. In s states) (holding_at x.haystack at) node h.targets.without in
-      let of = In-mapped (λ s. (s, at)) w (epsilon_states (holding_at x.haystack at) node) i in
-      inr (inr (
-        ap (λ (z : Pair). z.1) of.2,
-        subst (λ (z : Pair). In z.0 states) (sym of.2)
-            (All-In (λ s. In s states) (epsilon_states (holding_at x.haystack at) node) all of.0 of.1),
-      ))
-
   edge-step : (node : Node) (at : ℕ) (w : Pair) → IsPassed (byte_of cut) on_line states node
       → In w (edges_of x node at) → Step at w
   edge-step node at w h i =
-      elim (cases_Bool (rests node)) [
-        | inl rest ↦ over-byte node at w h (rw (resting-edges x node at rest) at i)
-        | inr leads ↦ without-byte node at w h (rw (epsilon-edges x node at leads) at i)
+      elim (edge-is x node at w i) [
+        | inl stays ↦
+            let free = epsilon_states (holding_at x.haystack at) node in
+            let all = epsilon-all (λ s. In s states) (holding_at x.haystack at) node h.targets.without in
+            inr (inr (stays.0, All-In (λ s. In s states) free all w.0 stays.1))
+        | inr over ↦
+            elim (tell (byte_of cut) over.byte) [
+              | inl is ↦ inl (record { byte = over.byte; is = is; read = over.is })
+              | inr other ↦ inr (inl (record {
+                byte = over.byte;
+                read = over.is;
+                onward = over.next;
+                there = h.targets.over.others over.byte w.0 (λ same. other (sym same)) over.target;
+                line = λ l ten.
+                    let none : target_on node 10 ≡ None = h.line l in
+                    let here : target_on node 10 ≡ Some w.0 =
+                    subst (λ c. target_on node c ≡ Some w.0) ten over.target in
+                    absurd (cc (none, here));
+              }))
+            ]
       ]
 
   -- the rest of a path from the state of the cut on, at the position

@@ -1,12 +1,11 @@
 -- From what the parser and the compiler return to what texts mean, and to why patterns are refused.
 use Rattle.regex_syntax.proofs.CapturesLemmas.{alike_cat, alike_refl}
 use Rattle.nfa_paths.proofs.Common.{AllZip-long, ◌≡◌, Bool, List, [], ◌∷◌, false, true, ℕ, MatchOption, None, Option, Some, AllZip, Automaton, inl, inr, length, sym, subst, arith, ◌==◌, cases_Bool}
-use Rattle.nfa_compiler.proofs.MeantLemmas.{all-meant}
 use Rattle.nfa_grep.specs.Meant.{ArePatterns, IsBuilt, IsReadFrom, bounded, word_start, Options, Re, IsOfPatterns, IsRefusalBy, IsTreeRefusal, described}
 use Rattle.grep_options.specs.declared.options.Bounds.{Bounds}
 use Rattle.grep_options.specs.declared.options.Bounds.TheVariants.{Anywhere, Words, Line}
 use Rattle.nfa_compiler.specs.declared.error.CompileError.{CompileError}
-use Rattle.nfa_compiler.specs.Common.{meaning, look, Start, SameCaptures, Config, Parsed, IsMeant, IsNfaOf, IsTreeOf, res_of}
+use Rattle.nfa_compiler.specs.Common.{look, Start, SameCaptures, Parsed, IsNfaOf, res_of}
 use Rattle.nfa_grep.specs.declared.fault.Fault.{Fault}
 
 -- patterns that match alike still do if their matches are bounded
@@ -15,12 +14,6 @@ bounded-alike Anywhere a b same = same
 bounded-alike Words a b same =
     alike_cat (alike_refl word_start) (alike_cat same (alike_refl _))
 bounded-alike Line a b same = alike_cat (alike_refl (look Start)) (alike_cat same (alike_refl _))
-
--- the tree of one text
-pub tree-alike : (syntax : Config) (text : List ℕ) (tree : Parsed) (re : Re) → IsTreeOf syntax text tree
-    → IsMeant syntax text re → SameCaptures (meaning tree.hir) re
-tree-alike syntax text tree re read means =
-    (all-meant syntax (text ∷ []) (tree ∷ []) (re ∷ []) (read, tt) (means, tt)).0
 
 -- the trees of all texts
 pub trees-alike : (options : Options) (texts : List (List ℕ)) (trees : List Parsed) (res : List Re)

@@ -4,11 +4,12 @@ use Rattle.nfa_lazy_dfa.specs.Configurations.{found_after}
 use Rattle.nfa_lazy_dfa.specs.Places.{IsFoundAt, IsNextPlace}
 use Rattle.nfa_lazy_dfa.specs.Rows.{IsAt, IsRowOf, Leads, row_of, stances_of}
 use Rattle.nfa_lazy_dfa.specs.Stances.{Stance}
-use Rattle.nfa_lazy_dfa.proofs.RunLemmas.{found-none, half-some, leads-on}
+use Rattle.nfa_lazy_dfa.proofs.RunLemmas.{found-none, leads-on}
 use Rattle.nfa_lazy_dfa.proofs.ScanLemmas.{IsAt-is_dead, IsAt-next, found_at}
 use Rattle.nfa_lazy_dfa.specs.declared.cache.Cache.{Cache}
 use Rattle.nfa_lazy_dfa.specs.declared.dfa.DFA.{DFA}
 use Rattle.nfa_lazy_dfa.specs.declared.scan.Place.{Place}
+use Rattle.nfa_lazy_dfa.proofs.LastScanLemmas.{half-some}
 
 -- the first match, or one that later matches replace
 after-hit : (earliest : Bool) (before hit : Option HalfFound) → is_some hit ≡ true

@@ -1,5 +1,6 @@
 -- The patterns that a row keeps are those of the matches in the closure of the scan.
 use Rattle.nfa_paths.proofs.Common.{◌≡◌, ℕ, ◌+◌, ◌-◌, ◌<◌, Bool, ◌≤◌, false, true, ap, get_or, length, map, sym, ◌∙◌, subst, option_map, slice_get, half_found_of, number_of, Search, MatchKind}
+use Rattle.nfa_paths.proofs.StartLemmas.{byte_at-inside}
 use Rattle.regex_search_core.specs.declared.search.MatchKind.TheVariants.{All}
 use Rattle.nfa_lazy_dfa.specs.Configurations.{closure_at, position_count, scan_half, scanned}
 use Rattle.nfa_lazy_dfa.specs.Assertions.{IsRead}
@@ -8,7 +9,7 @@ use Rattle.nfa_lazy_dfa.specs.Rows.{IsAt, IsRowOf, LeadsTo, stances_of}
 use Rattle.nfa_lazy_dfa.specs.Stances.{IsNext, Stance, hits_here, patterns_for, patterns_in, stance_of}
 use Rattle.nfa_lazy_dfa.proofs.ReachLemmas.{all_found, here_at}
 use Rattle.nfa_lazy_dfa.proofs.RowLemmas.{some-same}
-use Rattle.nfa_lazy_dfa.proofs.ScanLemmas.{byte-here, byte-there, next-over}
+use Rattle.nfa_lazy_dfa.proofs.ScanLemmas.{byte-there, next-over}
 use Rattle.nfa_lazy_dfa.proofs.StanceLemmas.{stands-here}
 use Rattle.nfa_lazy_dfa.specs.declared.cache.Cache.{Cache}
 use Rattle.nfa_lazy_dfa.specs.declared.dfa.DFA.{DFA}
@@ -53,7 +54,7 @@ module _ (dfa : DFA) (x : Search) (all : dfa.kind ≡ All) (late : x.earliest �
       let byte = get_or x.haystack p.at 0 in
       let s = at.at.stance in
       let t = stance_of stand in
-      let there = byte-there x p.at byte inside (byte-here x p.at inside within) in
+      let there = byte-there x p.at byte inside (byte_at-inside x p.at inside within) in
       let from : leads.from ≡ s =
       some-same (slice_get (stances_of old.stands.items) p.row) leads.from s leads.was at.at.is in
       let to : leads.to ≡ t = some-same (slice_get (stances_of new.stands.items) next) leads.to t leads.is known in

@@ -1,6 +1,6 @@
 -- An accepting path goes through the states of each position after its start, as long as nothing was found.
 use Rattle.nfa_paths.proofs.Common.{ℕ_discrete, ◌≡◌, ℕ, zero, suc, ◌+◌, ◌-◌, ◌<◌, ◌≤◌, ◌⊎◌, inl, inr, Bool, true, false, List, [], ◌∷◌, ◌++◌, length, map, replicate, get_or, set, refl, ap, sym, ◌∙◌, subst, arith, get_or-set_other, Option, None, Some, option_and_then, option_map, option_to_list, option_map_or, cases_lt, get_or-replicate, HalfFound, Search, MatchKind, Automaton, Pair, In, HeadIs, Linked, EndsWith, PathTo, rests, IsScanAnswer, path_half, pattern_of, IsMatch, node_at, byte_at, target_on, edges, pairs_from, start_count, start_state, starts, Holding, holding_at, epsilon_states, half_at}
-use Rattle.nfa_paths.proofs.MemberLemmas.{In-append_left, In-append_right}
+use Rattle.nfa_paths.proofs.MemberLemmas.{In-append_left, In-append_right, In-mapped}
 use Rattle.nfa_paths.proofs.PathToLemmas.{EndsWith-last}
 use Rattle.nfa_paths.proofs.AnswerLemmas.{scan_answer-leads}
 use Rattle.nfa_paths.proofs.ScanAnswerLemmas.{edges-onward, starts-from}
@@ -12,7 +12,6 @@ use Rattle.nfa_lazy_dfa.proofs.ExploreLemmas.Explores.{over, passes, keeps, open
 use Rattle.nfa_lazy_dfa.proofs.PositionLemmas.{closed-rests}
 use Rattle.nfa_paths.proofs.StartLemmas.{epsilon-edges}
 use Rattle.nfa_lazy_dfa.proofs.FollowLemmas.{match-rests, past-edges, past-plain, rests-edges}
-use Rattle.nfa_lazy_dfa.proofs.NextLemmas.{In-mapped}
 use Rattle.nfa_lazy_dfa.proofs.MatchLemmas.{NoneMatches, first-is}
 
 -- a state is led to by each state of the list that leads there

@@ -13,6 +13,11 @@ use Rattle.nfa_lazy_dfa.proofs.PositionLemmas.{scanned-each, AllScan, shape, tur
 use Rattle.nfa_paths.proofs.MemberLemmas.{option_or-None}
 use Rattle.nfa_paths.proofs.Common.{◌≡◌, ◌⊎◌, ℕ, ◌+◌, ◌≤◌, inl, inr, Bool, true, false, List, [], ◌∷◌, ◌++◌, map, refl, ap, sym, ◌∙◌, arith, Option, None, Some, is_some, option_map, option_and_then, option_or, map-append, HalfFound, Search, MatchKind, Automaton, Pair, IsFirstPath, WantedAt, Hit, Passes, IsFoundBy, NoneBefore, LastBefore, NoMatch, last_match, is_resting, is_match, IsScanAnswer, path_half, LeftmostFirst, half_at}
 
+-- a half match that is there
+pub half-some : (at : ℕ) (hit : Option ℕ) → is_some hit ≡ true → is_some (option_map (half_at at) hit) ≡ true
+half-some at None some = cc
+half-some at (Some p) some = refl
+
 -- what was found first stays
 pub stays : (o h : Option HalfFound) → is_some o ≡ true → option_or o h ≡ o
 stays o h some = grind arith
@@ -163,17 +168,13 @@ module _ (nfa : Automaton) (x : Search) where
                     (Answered-found All true (turns_here nfa x at s.spent c s.all) (Some some.0)
                     (IsEarliestLastPath-found (bare nfa x) (is_resting nfa) (is_match nfa) [] (shape nfa x) s.none
                     (front nfa x at s.spent c s.all) some.0 some.1));
-                some = ap is_some new ∙ is_half some.0.0.1 (state_pattern nfa some.0.0.0) some.2.matches;
+                some = ap is_some new ∙ half-some some.0.0.1 (state_pattern nfa some.0.0.0) some.2.matches;
               })
         ]
       where
         hit_is : half_of nfa (last_match (is_match nfa) None (map (place at) (closure_at nfa x at c)))
             ≡ option_map (half_at at) (last_pattern nfa (closure_at nfa x at c))
         hit_is = half-last nfa at (closure_at nfa x at c) None ∙ option_or-None _
-
-        is_half : (end : ℕ) (o : Option ℕ) → is_some o ≡ true → is_some (option_map (half_at end) o) ≡ true
-        is_half end None e = cc
-        is_half end (Some k) e = refl
 
   EarliestScan-advance : (kind : MatchKind) (at : ℕ) (c : Configuration) → EarliestScan kind at c
       → EarliestScan kind (at + 1) (advance nfa x kind true at c)

@@ -3,6 +3,7 @@ use Rattle.nfa_paths.proofs.Common.{◌≡◌, ℕ, ◌+◌, ◌<◌, ◌≤◌,
 use Rattle.nfa_paths.proofs.SearchLemmas.{AnswerBehind-along}
 use Rattle.nfa_paths.proofs.SearchingLemmas.{Searching-round}
 use Rattle.nfa_paths.proofs.ScanAnswerLemmas.{edges-onward, edges-rise}
+use Rattle.nfa_paths.proofs.MemberLemmas.{In-mapped}
 use Rattle.nfa_lazy_dfa.specs.Closures.{step}
 use Rattle.nfa_lazy_dfa.proofs.FollowLemmas.{pairs, place, bare, Finding, pairs-append, work-append, rests-edges}
 use Rattle.nfa_scan_core.specs.Marks.{SeenAt}
@@ -43,11 +44,6 @@ module _ (nfa : Automaton) (x : Search) (at : ℕ) where
       (next_tasks (edges nfa x) (map (place at) states) (Load [] ∷ map Explore rest)) left otherwise marks g
       (round-work target states (λ t i. r t (inr i)) rest left otherwise marks g)
       (rw split at h))
-
--- what is in a mapped list is the image of an element
-pub In-mapped : {A B : Type 0} (f : A → B) (y : B) (xs : List A) → In y (map f xs) → (x : A) × In x xs × (y ≡ f x)
-In-mapped f y [] i = absurd i
-In-mapped f y (x ∷ xs) i = grind (arith, In-mapped f y xs)
 
 -- a pair that was put aside is one of the states
 pub place-among : (at : ℕ) (states : List ℕ) (a : Pair × Slots) → In a (map (place at) states)

@@ -13,6 +13,7 @@ use Rattle.nfa_lazy_dfa.specs.declared.cache.Cache.{Cache}
 use Rattle.nfa_lazy_dfa.specs.declared.dfa.DFA.{DFA}
 use Rattle.nfa_lazy_dfa.specs.declared.follow.Stand.{Stand}
 use Rattle.nfa_lazy_dfa.specs.declared.scan.Place.{Place}
+use Rattle.nfa_lazy_dfa.proofs.LastScanLemmas.{half-some}
 
 pub found-none : (earliest : Bool) (found : Option HalfFound) → found_after earliest found None ≡ found
 found-none true None = refl
@@ -88,10 +89,6 @@ found-first : (earliest : Bool) → earliest ≡ false → (found hit : Option H
 found-first true late found hit some = cc
 found-first false late found None some = cc
 found-first false late found (Some h) some = refl
-
-pub half-some : (at : ℕ) (hit : Option ℕ) → is_some hit ≡ true → is_some (option_map (half_at at) hit) ≡ true
-half-some at None some = cc
-half-some at (Some p) some = refl
 
 -- over a byte, to a row that a match leads to, and that is not dead
 pub over-match : (dfa : DFA) (x : Search) (cache : Cache) (at first cell : ℕ)

@@ -1,5 +1,6 @@
 -- The loop of a scan over the rows of a cache.
-use Rattle.nfa_paths.proofs.Common.{◌≡◌, ℕ, zero, suc, ◌+◌, ◌-◌, ◌<◌, ◌≤◌, inl, Bool, true, false, [], ◌∷◌, length, get_or, refl, ap, sym, ◌∙◌, subst, arith, Option, None, Some, is_some, if◌then◌else◌, option_map, slice_get, option_or, option_map_or, lt-ltb, slice_get-get_or, HalfFound, half_found_of, HalfMatch, Search, byte_at, pairs_from, start_count, start_state, starts, byte_before, half_at}
+use Rattle.nfa_paths.proofs.Common.{◌≡◌, ℕ, zero, suc, ◌+◌, ◌-◌, ◌<◌, ◌≤◌, inl, Bool, true, false, [], ◌∷◌, length, get_or, refl, ap, sym, ◌∙◌, subst, arith, Option, None, Some, is_some, if◌then◌else◌, option_map, slice_get, option_or, option_map_or, lt-ltb, HalfFound, half_found_of, HalfMatch, Search, byte_at, pairs_from, start_count, start_state, starts, byte_before, half_at}
+use Rattle.nfa_paths.proofs.StartLemmas.{byte_at-inside}
 use Rattle.nfa_lazy_dfa.specs.Closures.{pattern_by_kind}
 use Rattle.nfa_lazy_dfa.specs.Configurations.{Configuration, IsDead, begin, closure_at, found_after, position_count, scanned, scan_half, start_here}
 use Rattle.nfa_lazy_dfa.proofs.ScanHalfLemmas.{length-starts}
@@ -52,13 +53,6 @@ pub byte-there : (x : Search) (at byte : ℕ) → at < x.end → byte_at x at �
     → slice_get x.haystack at ≡ Some byte
 byte-there x at byte less is =
     sym (ap (λ (b : Bool). if b then slice_get x.haystack at else None) (lt-ltb at x.end less)) ∙ is
-
--- the byte that a scan reads
-pub byte-here : (x : Search) (at : ℕ) → at < x.end → x.end ≤ length x.haystack
-    → byte_at x at ≡ Some (get_or x.haystack at 0)
-byte-here x at less within =
-    let inside : at < length x.haystack = omega arith in
-    rw (lt-ltb at x.end less) (slice_get-get_or x.haystack at 0 inside)
 
 module _ (dfa : DFA) (x : Search) where
   abbrev pub found_at : ℕ → Option HalfFound
@@ -150,7 +144,7 @@ module _ (dfa : DFA) (x : Search) where
       let next : IsNext dfa.nfa dfa.kind here.stance byte t =
       subst (λ (s : Stance). IsNext dfa.nfa dfa.kind s byte t) from
       (subst (IsNext dfa.nfa dfa.kind leads.from byte) to leads.next) in
-      let both = stance-next at byte inside (byte-here x at inside within) here.stance t here.low here.stands next in
+      let both = stance-next at byte inside (byte_at-inside x at inside within) here.stance t here.low here.stands next in
       let low : x.start ≤ at = here.low in
       (record { stance = t; is = known; low = omega arith; high = omega arith; stands = both.0 }, both.1)
 

@@ -5,9 +5,8 @@ use Rattle.nfa_paths.specs.StatePaths.{IsStart, IsStatePath, open_edges, positio
 use Rattle.nfa_paths.proofs.AnswerLemmas.{scan_answer-leads}
 use Rattle.nfa_paths.proofs.FirstStartLemmas.{start-of}
 use Rattle.nfa_paths.proofs.OneScanLemmas.{last-scan}
-use Rattle.nfa_paths.proofs.MemberLemmas.{All-In}
+use Rattle.nfa_paths.proofs.MemberLemmas.{All-In, In-mapped}
 use Rattle.nfa_paths.proofs.OpenPathLemmas.{linked-open}
-use Rattle.nfa_engines.proofs.MovedLemmas.{In-mapped}
 use Rattle.nfa_meta.specs.AlwaysSet.{AlwaysWrites, AreUnwritten, IsMarked, LeadsToMarked, SetsGroups}
 
 module _ (nfa : Automaton) (slot : ℕ) (marks : List Bool) (unwritten : AreUnwritten nfa slot marks) where

@@ -1,5 +1,5 @@
 -- The match of an anchored search, from its half match.
-use Rattle.nfa_paths.proofs.Common.{◌≡◌, ◌∙◌, ℕ, Bool, true, false, refl, sym, ap, subst, arith, get_or, ◌+◌, Option, None, Some, IfNone, IfSome, ◌<◌, ◌≤◌, length, option_and_then, option_map, lt-ltb, slice_get-get_or, Found, HalfFound, found_of, slot_count, Search, is_anchored, match_of, Match, MatchKind, Automaton, IsAutomaton, IsFindAnswer, IsHalfAnswer, byte_at, path_pattern, slot_row, LeftmostFirst, List}
+use Rattle.nfa_paths.proofs.Common.{◌≡◌, ◌∙◌, ℕ, Bool, true, false, refl, sym, ap, subst, ◌+◌, Option, None, Some, IfNone, IfSome, ◌≤◌, option_and_then, option_map, Found, HalfFound, found_of, slot_count, Search, is_anchored, match_of, Match, MatchKind, Automaton, IsAutomaton, IsFindAnswer, IsHalfAnswer, path_pattern, slot_row, LeftmostFirst, List}
 use Rattle.nfa_paths.proofs.InsideLemmas.{match-within}
 use Rattle.nfa_paths.proofs.FirstStartLemmas.{next-first}
 use Rattle.nfa_engines.specs.Laws.{MatchesNothing}
@@ -76,13 +76,6 @@ found-at-start has matches (Some None) answers = tt
 found-at-start {nfa = nfa} {x = x} {s = s} has matches (Some (Some m)) answers =
     rw (has.leftmost, has.last) (matches nfa x s (found_of m) has.starts has.first
     (rw (has.leftmost, has.last) at answers))
-
--- the byte at a position before the end of the span
-pub read-inside : (x : Search) (at : ℕ) → at < x.end → x.end ≤ length x.haystack
-    → byte_at x at ≡ Some (get_or x.haystack at 0)
-read-inside x at less fits =
-    let inside : at < length x.haystack = omega arith in
-    rw (lt-ltb at x.end less) (slice_get-get_or x.haystack at 0 inside)
 
 -- a search keeps what a regex is made of
 pub regex-kept : (patterns : List (List ℕ)) (old new : RegexState) → IsRegexOf patterns old → KeepsRegex old new

@@ -1,12 +1,12 @@
 -- A search whose anchored search at its first start finds nothing goes on one position further, also if a match has to
 -- end on a boundary.
-use Rattle.nfa_paths.proofs.Common.{◌≡◌, inl, inr, ℕ, zero, suc, ◌+◌, ◌-◌, ◌<◌, ◌≤◌, Bool, true, false, List, [], ◌∷◌, refl, ap, sym, ◌∙◌, subst, arith, cases_Bool, cases_lt, MatchBool, Option, None, Some, is_anchored, IsBoundary, Found, Search, Automaton, MatchKind, Pair, PathTo, IsFindAnswer, IsHalfAnswer, IsKeptAnswer, IsRestartedAnswer, IsScanAnswer, IsSearchAnswer, IsWhole, SplitsCharacter, EndsOnBoundary, edges, is_utf8_empty, node_at, raised, starts, Yes, LeftmostFirst}
+use Rattle.nfa_paths.proofs.Common.{◌≡◌, inl, inr, ℕ, zero, suc, ◌+◌, ◌-◌, ◌<◌, ◌≤◌, Bool, true, false, List, [], ◌∷◌, refl, ap, sym, ◌∙◌, subst, arith, cases_Bool, cases_lt, MatchBool, Option, None, Some, is_anchored, IsBoundary, Found, Search, Automaton, MatchKind, Pair, IsFindAnswer, IsHalfAnswer, IsKeptAnswer, IsRestartedAnswer, IsScanAnswer, IsSearchAnswer, IsWhole, SplitsCharacter, EndsOnBoundary, is_utf8_empty, node_at, raised, starts, LeftmostFirst}
 use Rattle.nfa_paths.proofs.OneScanLemmas.{first-scan, scan-of, settled-scan}
 use Rattle.nfa_paths.proofs.StartLemmas.{raised-zero}
 use Rattle.nfa_lazy_dfa.specs.Configurations.{IsKeptHalf, IsRestartedHalf, StartsFrom, StepsFindTheHalf, scan_half}
 use Rattle.nfa_engines.specs.StartLaws.{IsFirstStart, IsUnbound, StartsAnywhere, anchored_at, from_start}
-use Rattle.nfa_paths.proofs.FirstStartLemmas.{anchored-start, next-first, same_edges, start-unanchored, with-starts}
-use Rattle.nfa_engines.proofs.StartAnswerLemmas.{first-answers}
+use Rattle.nfa_paths.proofs.FirstStartLemmas.{next-first}
+use Rattle.nfa_engines.proofs.StartAnswerLemmas.{first-of-bytes, free-of-bytes, of-bytes, scan-first, starts-past}
 use Rattle.nfa_meta.specs.WindowLaws.{ScansAreFirstStarts, SearchGoesOn}
 use Rattle.nfa_meta.proofs.WindowLemmas.{StartsLate, first-start, none-path, scan-back}
 
@@ -15,39 +15,10 @@ late-of : (nfa : Automaton) (x : Search) (s : ℕ) → IsUnbound nfa x → IsFir
 late-of nfa x s free first = record {
   free = free;
   low = first.from;
-  from = record {
-    from = λ m p w accepts.
-        elim (cases_lt w.start.1 s) [
-          | inl before ↦
-              let at = start-unanchored nfa x free x.start w.start w.among in
-              let state : w.start.0 ≡ nfa.anchored = at.state_is in
-              let there : PathTo (edges nfa (anchored_at x w.start.1)) (starts nfa (anchored_at x w.start.1)) m p =
-              subst (λ es. PathTo es (starts nfa (anchored_at x w.start.1)) m p)
-              (sym (same_edges nfa x w.start.1 Yes))
-              (with-starts w (anchored-start nfa x w.start.1 w.start (λ i. (state i, w.start.1)) at.within)) in
-              absurd ((first.nothing w.start.1 at.from before).no_path m p there accepts)
-          | inr past ↦ past
-        ];
-  };
+  from = record { from = starts-past nfa x free s first };
 }
 
--- the NFA without its UTF-8 mode, with the same paths
-abbrev of-bytes : Automaton → Automaton
-of-bytes nfa = record nfa { utf8 = false }
-
-never-whole : (nfa : Automaton) → is_utf8_empty (of-bytes nfa) ≡ false
-never-whole nfa = grind arith
-
-free-of-bytes : (nfa : Automaton) (x : Search) → StartsAnywhere nfa x → IsUnbound (of-bytes nfa) x
-free-of-bytes nfa x starts = grind (arith, never-whole)
-
-first-of-bytes : (nfa : Automaton) (x : Search) (s : ℕ) → IsFirstStart nfa x s → IsFirstStart (of-bytes nfa) x s
-unfolding node_at
-first-of-bytes nfa x s first = record {
-  from = first.from;
-  nothing = λ i low less. record { no_path = (first.nothing i low less).no_path };
-}
-
+-- the NFA without its UTF-8 mode has the same paths
 of-bytes-first : (nfa : Automaton) (x : Search) (s : ℕ) → IsFirstStart (of-bytes nfa) x s → IsFirstStart nfa x s
 unfolding node_at
 of-bytes-first nfa x s first = record {
@@ -68,14 +39,7 @@ scan-first-start nfa x s starts low from =
     }))
 
 module _ (nfa : Automaton) (x : Search) (starts : StartsAnywhere nfa x) (s : ℕ) (first : IsFirstStart nfa x s) where
-  -- the answer of the anchored scan there is that of the scan
-  scan-first : (p : List Pair) → IsScanAnswer nfa (anchored_at x s) LeftmostFirst false (Some p)
-      → IsScanAnswer nfa x LeftmostFirst false (Some p)
-  unfolding node_at
-  scan-first p h =
-      first-answers (of-bytes nfa) x (free-of-bytes nfa x starts) s (first-of-bytes nfa x s first) p h
-
-  -- and so is that of the scan from there on
+  -- the answer of the scan from there on is that of the scan
   scan-passed : (path : Option (List Pair)) → IsScanAnswer nfa (from_start x s) LeftmostFirst false path
       → IsScanAnswer nfa x LeftmostFirst false path
   unfolding node_at

@@ -6,7 +6,7 @@ use Rattle.nfa_paths.proofs.PathToLemmas.{EndsWith-last}
 use Rattle.nfa_lazy_dfa.specs.Configurations.{StartsFrom}
 use Rattle.nfa_engines.specs.SpanLaws.{EndMayBeCut}
 use Rattle.nfa_engines.specs.StartLaws.{IsFirstStart, IsUnbound, from_start}
-use Rattle.nfa_paths.proofs.FirstStartLemmas.{heads-one, same_edges, start-anchored, start-unanchored, unanchored-start, with-starts}
+use Rattle.nfa_paths.proofs.FirstStartLemmas.{heads-one, same_edges, start-anchored, unanchored-start, with-starts}
 use Rattle.nfa_lazy_dfa.specs.Windows.{IsWindow, half_in, start_in}
 use Rattle.nfa_lazy_dfa.specs.declared.window.Window.{Window}
 use Rattle.nfa_choice.specs.ChoiceState.{kind_in}
@@ -14,6 +14,7 @@ use Rattle.nfa_meta.specs.RegexState.{KeepsRegex, RegexState}
 use Rattle.nfa_meta.specs.WindowLaws.{WindowHasTheAnswer, WindowHasTheMatch, within}
 use Rattle.nfa_meta.specs.WindowRuns.{AnswersAs, EndsAtMatch, HalvesAs, HasNoMatch, IsWindowOf, NeedsWhole}
 use Rattle.nfa_meta.specs.Windowed.{IsWindowed}
+use Rattle.nfa_engines.proofs.StartAnswerLemmas.{path-back, path-on}
 
 -- an unanchored search, and a position before which no accepting path starts
 pub record StartsLate (nfa : Automaton) (x : Search) (s : ℕ) : Type 0 where
@@ -42,32 +43,16 @@ module _ {nfa : Automaton} {x : Search} {s : ℕ} (late : StartsLate nfa x s) wh
     };
   }
 
-  -- a path to a match is one of the search from the position on
-  path-on : (m : Pair) (p : List Pair) → PathTo (edges nfa x) (starts nfa x) m p → IsMatch nfa m
-      → PathTo (edges nfa x) (starts nfa (from_start x s)) m p
-  path-on m p w accepts =
-      let at = start-unanchored nfa x late.free x.start w.start w.among in
-      with-starts w (unanchored-start nfa x late.free s w.start
-      (record { state_is = at.state_is; from = late.from.from m p w accepts; within = at.within }))
-
-  path-back : (m : Pair) (p : List Pair) → PathTo (edges nfa x) (starts nfa (from_start x s)) m p
-      → PathTo (edges nfa x) (starts nfa x) m p
-  path-back m p w =
-      let at = start-unanchored nfa x late.free s w.start w.among in
-      let past : s ≤ w.start.1 = at.from in
-      with-starts w (unanchored-start nfa x late.free x.start w.start
-      (record { state_is = at.state_is; from = omega arith; within = at.within }))
-
-  -- the first one stays the first
+  -- the first path stays the first one of the search from the position on
   scan-on : (p : List Pair) → IsScanAnswer nfa x LeftmostFirst false (Some p)
       → IsScanAnswer nfa (from_start x s) LeftmostFirst false (Some p)
   scan-on p h =
       subst (λ es. IsFirstTo es (starts nfa (from_start x s)) (IsMatch nfa) p) (sym (same_edges nfa x s x.anchored))
       (record {
         end = h.end;
-        path = path-on h.end p h.path h.wanted;
+        path = path-on nfa x late.free s first-start h.end p h.path h.wanted;
         wanted = h.wanted;
-        first = λ m q w accepts. h.first m q (path-back m q w) accepts;
+        first = λ m q w accepts. h.first m q (path-back nfa x late.free s first-start m q w accepts) accepts;
       })
 
   -- and the answer of the scan from there on is that of the scan
@@ -78,12 +63,12 @@ module _ {nfa : Automaton} {x : Search} {s : ℕ} (late : StartsLate nfa x s) wh
     where
       of : (path : Option (List Pair)) → IsFirstPath (edges nfa x) (starts nfa (from_start x s)) (IsMatch nfa) path
           → IsFirstPath (edges nfa x) (starts nfa x) (IsMatch nfa) path
-      of None none = λ m p w accepts. none m p (path-on m p w accepts) accepts
+      of None none = λ m p w accepts. none m p (path-on nfa x late.free s first-start m p w accepts) accepts
       of (Some p) h = record {
         end = h.end;
-        path = path-back h.end p h.path;
+        path = path-back nfa x late.free s first-start h.end p h.path h.wanted;
         wanted = h.wanted;
-        first = λ m q w accepts. h.first m q (path-on m q w accepts) accepts;
+        first = λ m q w accepts. h.first m q (path-on nfa x late.free s first-start m q w accepts) accepts;
       }
 
   -- the path of the half match

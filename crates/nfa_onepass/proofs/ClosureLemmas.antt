@@ -2,13 +2,12 @@
 use Rattle.std.specs.Global.{Vec}
 use Rattle.nfa_paths.proofs.Common.{◌≡◌, ◌∙◌, ℕ, ◌≤◌, ◌<◌, ◌⊎◌, inl, inr, List, [], ◌∷◌, ◌++◌, length, refl, sym, ap, subst, arith, append-nil, append_assoc, IfSome, Option, None, Some, Bool, true, false, none-some, Automaton, Node, LeadsBelow, In, node_at, pattern_of, Look, Union, BinaryUnion, Capture, ByteRange, Sparse, Dense, Fail}
 use Rattle.thompson_nfa.specs.Automaton.Node.{Match}
-use Rattle.nfa_paths.proofs.MemberLemmas.{In-append, In-append_left, In-append_right, In-map, All-In, same_some}
+use Rattle.nfa_paths.proofs.MemberLemmas.{In-append, In-append_left, In-append_right, In-map, All-In, same_some, In-mapped}
 use Rattle.nfa_onepass.specs.Ways.{IsDead, IsSure, Way, free_states, goal_of, here, over, written}
 use Rattle.nfa_onepass.specs.Lists.{HasEmptyList, Keeps, list_at}
 use Rattle.nfa_onepass.specs.Tables.{GoesOn, IsReached, threads_at}
 use Rattle.nfa_onepass.specs.declared.way.WayEnd.{WayEnd}
 use Rattle.nfa_onepass.specs.declared.way.Thread.{Thread}
-use Rattle.nfa_onepass.proofs.WayLemmas.{In-mapped}
 
 -- a state that leads to a goal leads to none without a byte
 goal-free : (looks : Bool) (byte : Option ℕ) (node : Node) (k s : ℕ) → goal_of byte node ≡ Some k
@@ -237,7 +236,7 @@ module _ (nfa : Automaton) (looks : Bool) where
                 (k.0, (let l = keeps.longer in let m = k.1 in omega arith))
             | inr j ↦
                 let m =
-                In-mapped (λ (z : ℕ). record { sid = z; list = on.list }) (free_states looks (node_at nfa t.sid)) u j in
+                In-mapped (λ (z : ℕ). record { sid = z; list = on.list }) u (free_states looks (node_at nfa t.sid)) j in
                 subst (IsThread new) (sym m.2)
                 (free-below looks (length nfa.states) (node_at nfa t.sid) leads m.0 m.1, on.inside)
           ];
@@ -250,7 +249,7 @@ module _ (nfa : Automaton) (looks : Bool) where
                 (h.comes u old)
             | inr j ↦
                 let m =
-                In-mapped (λ (z : ℕ). record { sid = z; list = on.list }) (free_states looks (node_at nfa t.sid)) u j in
+                In-mapped (λ (z : ℕ). record { sid = z; list = on.list }) u (free_states looks (node_at nfa t.sid)) j in
                 let old : In t stack = subst (In t) (sym is) (In-append_right t rest (t ∷ []) (inl refl)) in
                 subst (λ (w : Thread). Way nfa looks s (list_at new w.list) w.sid) (sym m.2)
                 (subst (λ (l : List ℕ). Way nfa looks s l m.0) (sym on.after) (way-on m.0 (h.comes t old) m.1))

@@ -1,6 +1,6 @@
 -- A table that grows keeps its steps, and a walk that takes one goes on.
 use Rattle.std.specs.Global.{Vec}
-use Rattle.nfa_paths.proofs.Common.{◌≡◌, ◌∙◌, ℕ, zero, suc, ◌+◌, ◌*◌, ◌<◌, ◌≤◌, ◌⊎◌, inl, inr, List, [], ◌∷◌, ◌++◌, replicate, slice_get, slice_set, slice_index_or, get_or, get_or_from_slice_get, slice_get-get_or, none-some, refl, sym, ap, subst, arith, length, length-append, length-set, Bool, false, cases_Bool, slice_get_within, Option, None, Some, option_map, Automaton, Search, Slots, byte_at, start_state, length-replicate}
+use Rattle.nfa_paths.proofs.Common.{◌≡◌, ◌∙◌, ℕ, zero, suc, ◌+◌, ◌*◌, ◌<◌, ◌≤◌, ◌⊎◌, inl, inr, List, [], ◌∷◌, ◌++◌, replicate, slice_get, slice_set, slice_index_or, get_or, get_or_from_slice_get, none-some, refl, sym, ap, subst, arith, length, length-append, length-set, Bool, false, cases_Bool, slice_get_within, Option, None, Some, option_map, Automaton, Search, Slots, byte_at, start_state, length-replicate}
 use Rattle.nfa_paths.proofs.MemberLemmas.{same_some}
 use Rattle.nfa_onepass.specs.Ways.{HasOnlyEnds, IsDead, IsNowhere, IsOnWay, IsOnly, IsSure, IsWhole, write_each}
 use Rattle.nfa_onepass.specs.Lists.{HasEmptyList, Keeps, list_at}
@@ -88,12 +88,6 @@ IsNowhere-walking nfa x t row b at slots own plain h e dead =
 -- the column of a byte
 pub byte_of-low : (column : ℕ) → column < 256 → byte_of column ≡ Some column
 byte_of-low = grind arith
-
--- the byte at a position of the span
-pub byte-here : (x : Search) (at : ℕ) → at < x.end → x.end ≤ length x.haystack
-    → byte_at x at ≡ Some (get_or x.haystack at 0)
-byte-here x at low within =
-    let is = slice_get-get_or x.haystack at 0 (omega (arith, low, within)) in grind (arith, low, is)
 
 -- a row that has a state is one of them
 pub row-inside : (rows : List Row) (row s : ℕ) → state_at rows row ≡ Some s → row < length rows

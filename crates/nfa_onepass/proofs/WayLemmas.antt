@@ -1,21 +1,14 @@
 -- How a list of pairs that follows edges goes on from a state: by a way without a byte, then over a byte or to a Match.
-use Rattle.nfa_paths.proofs.Common.{◌≡◌, ◌∙◌, ◌≤◌, ◌<◌, ℕ, ◌+◌, ◌⊎◌, inl, inr, Bool, false, true, cases_lt, look_holds, nat_tests, List, [], ◌∷◌, ◌++◌, map, length, replicate, refl, sym, ap, subst, arith, length-set, Option, None, Some, is_some, option_to_list, option_and_then, option_map, none-some, slice_set, cases_Bool, Search, Automaton, Node, Pair, In, Slots, apply, write, Holding, holding_at, epsilon_states, rests, node_at, capture, edges, byte_at, target_on, pattern_of, slot_of, start_state, slot_row, Look, Union, BinaryUnion, Capture, ByteRange, Sparse, Dense, Fail}
+use Rattle.nfa_paths.proofs.Common.{◌≡◌, ◌∙◌, ◌≤◌, ◌<◌, ℕ, ◌+◌, inl, inr, Bool, false, true, cases_lt, look_holds, nat_tests, List, [], ◌∷◌, ◌++◌, length, replicate, refl, sym, ap, subst, arith, length-set, Option, None, Some, is_some, option_to_list, slice_set, cases_Bool, Search, Automaton, Node, Pair, In, Slots, apply, write, Holding, holding_at, epsilon_states, rests, node_at, capture, edges, byte_at, target_on, pattern_of, slot_of, start_state, slot_row, Look, Union, BinaryUnion, Capture, ByteRange, Sparse, Dense, Fail}
 use Rattle.thompson_nfa.specs.Automaton.Node.{Match}
 use Rattle.thompson_nfa.specs.declared.look.Look as looks
 use Rattle.thompson_nfa.specs.declared.look.Look.TheVariants.{End}
-use Rattle.nfa_paths.proofs.StartLemmas.{resting-edges, epsilon-edges, byte_at-within, byte_pairs, IsMatch-capture, resting-capture}
+use Rattle.nfa_paths.proofs.StartLemmas.{resting-edges, epsilon-edges, byte_at-within, IsMatch-capture, resting-capture}
 use Rattle.nfa_paths.proofs.AnswerLemmas.{apply-slot_row}
 use Rattle.nfa_paths.proofs.FirstStartLemmas.{path-order}
 use Rattle.nfa_paths.proofs.MemberLemmas.{In-map, same_some}
+use Rattle.nfa_paths.proofs.EdgeLemmas.{edge-is}
 use Rattle.nfa_onepass.specs.Ways.{HasOnlyEnds, IsDead, IsNowhere, IsOnWay, IsOnly, IsOnlyEnd, IsReachedFrom, IsShut, IsSure, IsTail, IsWhole, Way, free_states, here, over, write_each, written}
-
--- an element of a mapped list comes from one of the list
-pub In-mapped : {A B : Type 0} (f : A → B) (xs : List A) (y : B) → In y (map f xs) → (x : A) × In x xs × (y ≡ f x)
-In-mapped f [] y i = absurd i
-In-mapped f (x ∷ xs) y i = elim i [
-  | inl e ↦ (x, inl refl, e)
-  | inr j ↦ let k = In-mapped f xs y j in (k.0, inr k.1, k.2)
-]
 
 -- what a state leads to where its assertion holds, it leads to if each holds
 free-more : (holding : Holding) (node : Node) (s : ℕ) → In s (epsilon_states holding node)
@@ -104,12 +97,6 @@ target-rests (Union alternates) b to e = cc
 target-rests (BinaryUnion alt1 alt2) b to e = cc
 target-rests (Capture next slot) b to e = cc
 
--- the pair that a byte leads to
-byte-pairs : (node : Node) (at : ℕ) (w : Pair) (byte : Option ℕ) → In w (byte_pairs node at byte)
-    → In w (option_to_list (option_map (λ next. (next, at + 1)) (option_and_then (target_on node) byte)))
-byte-pairs node at w None i = i
-byte-pairs node at w (Some b) i = i
-
 module _ (nfa : Automaton) (x : Search) where
   -- what states lead to at the position, they lead to if each assertion holds or none does
   abbrev pub Covers : Bool → ℕ → Type 0
@@ -134,46 +121,6 @@ module _ (nfa : Automaton) (x : Search) where
   Holds-all only at is s t i =
       subst (λ (p : ℕ). In t (epsilon_states (holding_at x.haystack p) (node_at nfa s))) (sym is)
       (free-at_end x.haystack (node_at nfa s) t (only s) i)
-
-  -- over the byte at the position the pair leads to the next one
-  record IsRead (s at : ℕ) (w : Pair) : Type 0 where
-    byte : ℕ
-    is : byte_at x at ≡ Some byte
-    target : target_on (node_at nfa s) byte ≡ Some w.0
-    next : w.1 ≡ at + 1
-    writes : slot_of (node_at nfa s) ≡ None
-
-  read-of : (s at : ℕ) (w : Pair) (byte to : Option ℕ) → byte_at x at ≡ byte → slot_of (node_at nfa s) ≡ None
-      → option_and_then (target_on (node_at nfa s)) byte ≡ to
-      → In w (option_to_list (option_map (λ next. (next, at + 1)) to)) → IsRead s at w
-  read-of s at w byte None e none t i = absurd i
-  read-of s at w None (Some k) e none t i = absurd (elim (none-some k t) [ ])
-  read-of s at w (Some b) (Some k) e none t i =
-      let is : w ≡ (k, at + 1) = elim i [ inl same ↦ same | inr never ↦ absurd never ] in
-      record {
-        byte = b;
-        is = e;
-        target = t ∙ ap (λ (u : Pair). Some u.0) (sym is);
-        next = ap (λ (u : Pair). u.1) is;
-        writes = none;
-      }
-
-  -- an edge goes on without a byte, or over one
-  edge : (s at : ℕ) (w : Pair) → In w (edges nfa x (s, at))
-      → ((w.1 ≡ at) × In w.0 (epsilon_states (holding_at x.haystack at) (node_at nfa s))) ⊎ IsRead s at w
-  edge s at w i =
-      elim (cases_Bool (rests (node_at nfa s))) [
-        | inl r ↦ inr (read-of s at w (byte_at x at) (option_and_then (target_on (node_at nfa s)) (byte_at x at)) refl
-            (resting-capture nfa (s, at) r) refl
-            (byte-pairs (node_at nfa s) at w (byte_at x at) (rw (resting-edges x (node_at nfa s) at r) at i)))
-        | inr r ↦
-            let k = In-mapped (λ t. (t, at)) (epsilon_states (holding_at x.haystack at) (node_at nfa s)) w
-            (rw (epsilon-edges x (node_at nfa s) at r) at i) in
-            inl (
-              ap (λ (u : Pair). u.1) k.2,
-              rw k.2 k.1,
-            )
-      ]
 
   -- a list that begins with one more pair
   tail-behind : (s at : ℕ) (w m : Pair) (q : List Pair) → In w (edges nfa x (s, at)) → IsTail nfa x w m q
@@ -205,7 +152,7 @@ module _ (nfa : Automaton) (x : Search) where
   tail-end [] s m t = absurd t.head
   tail-end (v ∷ []) s m t = ap (λ (u : Pair). u.1) (sym t.ends ∙ t.head)
   tail-end (v ∷ (w ∷ p)) s m t =
-      elim (edge s x.end w (rw t.head at t.linked.0)) [
+      elim (edge-is x (node_at nfa s) x.end w (rw t.head at t.linked.0)) [
         | inl free ↦ tail-end (w ∷ p) w.0 m (tail-after s x.end v w m p t x.end free.0)
         | inr read ↦
             let inside = byte_at-within x x.end read.byte read.is in absurd (omega (arith, inside))
@@ -252,7 +199,7 @@ module _ (nfa : Automaton) (x : Search) where
   goes_over looks (v ∷ []) s at b m covers e t low =
       let there : at ≡ m.1 = ap (λ (u : Pair). u.1) (sym t.head ∙ t.ends) in absurd (omega (arith, there, low))
   goes_over looks (v ∷ (w ∷ p)) s at b m covers e t low =
-      elim (edge s at w (rw t.head at t.linked.0)) [
+      elim (edge-is x (node_at nfa s) at w (rw t.head at t.linked.0)) [
         | inl free ↦
             let r = goes_over looks (w ∷ p) w.0 at b m covers e (tail-after s at v w m p t at free.0) low in
             record {
@@ -278,7 +225,8 @@ module _ (nfa : Automaton) (x : Search) where
               reads = ap (target_on (node_at nfa s)) (sym same_byte) ∙ read.target;
               tail = tail-after s at v w m p t (at + 1) read.next;
               same = λ row. ap (λ (u : Pair). apply (capture nfa) (w ∷ p) (write (capture nfa u) u.1 row)) t.head
-                  ∙ ap (λ (o : Option ℕ). apply (capture nfa) (w ∷ p) (write o at row)) read.writes;
+                  ∙ ap (λ (o : Option ℕ). apply (capture nfa) (w ∷ p) (write o at row))
+                  (resting-capture nfa (s, at) read.rests);
             }
       ]
 
@@ -300,7 +248,7 @@ module _ (nfa : Automaton) (x : Search) where
             (ap (capture nfa) t.ends ∙ IsMatch-capture nfa m t.matches);
       }
   ending looks (v ∷ (w ∷ p)) s at m covers t there =
-      elim (edge s at w (rw t.head at t.linked.0)) [
+      elim (edge-is x (node_at nfa s) at w (rw t.head at t.linked.0)) [
         | inl free ↦
             let r = ending looks (w ∷ p) w.0 at m covers (tail-after s at v w m p t at free.0) there in
             record {

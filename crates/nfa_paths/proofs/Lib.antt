@@ -14,6 +14,7 @@ pub mod ScanLemmas
 pub mod SetLemmas
 pub mod CutLemmas
 pub mod StartLemmas
+pub mod EdgeLemmas
 pub mod AnswerLemmas
 pub mod ScanAnswerLemmas
 pub mod PatternLemmas

@@ -25,6 +25,11 @@ pub In-map : {A B : Type 0} (f : A → B) (x : A) (xs : List A) → In x xs → 
 In-map f x [] i = absurd i
 In-map f x (y ∷ xs) i = elim i [ inl e ↦ inl (ap f e) | inr j ↦ inr (In-map f x xs j) ]
 
+-- and what that list gives is what an element gives
+pub In-mapped : {A B : Type 0} (f : A → B) (y : B) (xs : List A) → In y (map f xs) → (x : A) × In x xs × (y ≡ f x)
+In-mapped f y [] i = absurd i
+In-mapped f y (x ∷ xs) i = grind (arith, In-mapped f y xs)
+
 -- what holds of all elements holds of each
 pub All-In : {A : Type 0} (P : A → Type 0) (xs : List A) → All P xs → (x : A) → In x xs → P x
 All-In P [] all x i = absurd i

@@ -1,5 +1,5 @@
 -- The starts of the paths of an NFA, and the edges of its pairs.
-use Rattle.nfa_paths.proofs.Common.{◌≡◌, ℕ, zero, suc, ◌+◌, ◌-◌, ◌≤◌, ◌<◌, true, false, List, [], ◌∷◌, map, length, All, refl, ap, arith, Option, None, Some, is_some, option_and_then, option_map, option_to_list, slice_get, All-nil, get_or_from_slice_get, Search, Automaton, Node, Pair, In, Increasing, rests, is_resting, Holding, holding_at, epsilon_states, degree, pattern_of, slot_of, target_on, byte_at, pairs_from, raised, node_at, is_match, capture, edges_of, edges, starts, Look, Fail}
+use Rattle.nfa_paths.proofs.Common.{◌≡◌, ℕ, zero, suc, ◌+◌, ◌-◌, ◌≤◌, ◌<◌, true, false, List, [], ◌∷◌, map, length, All, refl, ap, arith, Option, None, Some, is_some, option_and_then, option_map, option_to_list, slice_get, All-nil, get_or, get_or_from_slice_get, slice_get-get_or, Search, Automaton, Node, Pair, In, Increasing, rests, is_resting, Holding, holding_at, epsilon_states, degree, pattern_of, slot_of, target_on, byte_at, pairs_from, raised, node_at, is_match, capture, edges_of, edges, starts, Look, Fail}
 
 -- the pairs from a position on are at it or after it
 pub pairs_from-ahead : (state at count : ℕ) (d : Pair) → In d (pairs_from state at count) → at ≤ d.1
@@ -64,6 +64,11 @@ resting-capture nfa v = grind arith
 -- a byte that is read is before the end of the span
 pub byte_at-within : (x : Search) (p b : ℕ) → byte_at x p ≡ Some b → p < x.end
 byte_at-within x p b e = grind arith
+
+-- and before the end of the span there is one
+pub byte_at-inside : (x : Search) (at : ℕ) → at < x.end → x.end ≤ length x.haystack
+    → byte_at x at ≡ Some (get_or x.haystack at 0)
+byte_at-inside x at less fits = grind (arith, slice_get-get_or)
 
 -- the pair that a state leads to on the byte, if it reads the byte
 abbrev pub byte_pairs : Node → ℕ → Option ℕ → List Pair

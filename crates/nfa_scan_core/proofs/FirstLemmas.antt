@@ -1,6 +1,8 @@
 -- What is reached before a byte is read, and what the table of first bytes promises of it.
-use Rattle.nfa_paths.proofs.Common.{◌≡◌, ℕ, suc, zero, ◌+◌, ◌<◌, ◌≤◌, inl, inr, List, [], ◌∷◌, length, get_or, map, replicate, refl, ap, sym, arith, subst, Some, true, false, Bool, All, option_map, option_and_then, option_to_list, is_some, if◌then◌else◌, slice_get, cases_Bool, get_or_default, get_or_from_slice_get, slice_get-get_or, Search, Automaton, Node, Pair, In, Path, node_at, pattern_of, edges, edges_of, rests, holding_at, is_match, byte_at, target_on, first_target, holds_byte, Transition, stop, go, not, slice_index_or, not-false, not-true, Accepts, get_or-replicate, ByteRange, Sparse}
-use Rattle.nfa_paths.proofs.StartLemmas.{resting-edges, epsilon-edges, epsilon-all, IsMatch-edges}
+use Rattle.nfa_paths.proofs.Common.{◌≡◌, ℕ, suc, zero, ◌+◌, ◌<◌, ◌≤◌, inl, inr, List, [], ◌∷◌, length, get_or, replicate, refl, arith, subst, Some, true, false, Bool, All, is_some, if◌then◌else◌, slice_get, get_or_default, get_or_from_slice_get, Search, Automaton, Node, Pair, In, Path, node_at, pattern_of, edges, edges_of, holding_at, is_match, first_target, holds_byte, Transition, stop, go, not, slice_index_or, not-false, not-true, Accepts, get_or-replicate, ByteRange, Sparse, epsilon_states}
+use Rattle.nfa_paths.proofs.EdgeLemmas.{edge-is}
+use Rattle.nfa_paths.proofs.MemberLemmas.{All-In}
+use Rattle.nfa_paths.proofs.StartLemmas.{epsilon-all, IsMatch-edges}
 use Rattle.nfa_scan_core.specs.FirstBytes.{Admits, Grows, WasReached, Extends, Covers, IsRefused, MayBegin, IsFirstBytes, GrowsBy, Reads, Stops, AddsOnly, LacksRoom, Differ, AreDistinct, epsilon_targets, IsReachedAtStart, IsRead}
 use Rattle.nfa_scan_core.specs.declared.first_bytes.ReachedStates.{ReachedStates}
 use Rattle.nfa_paths.specs.Paths.{NoMatchBegins}
@@ -54,40 +56,18 @@ module _ (nfa : Automaton) where
       → (s : ℕ) → WasReached r s → Covers r table (node_at nfa s)
   covers-all r table done all below s i = rw (← i.is) (below i.place (omega (arith, i.below)))
 
--- the byte at a position before the end of the span
-pub byte_at-inside : (x : Search) (at : ℕ) → at < x.end → x.end ≤ length x.haystack
-    → byte_at x at ≡ Some (get_or x.haystack at 0)
-byte_at-inside x at less fits = grind (arith, slice_get-get_or)
-
 -- edges
-
-lands : (r : ReachedStates) (next at : ℕ) (w : Pair) → w ≡ (next, at) → WasReached r next → (w.1 ≡ at)
-    × WasReached r w.0
-lands r next at w e reached = (ap (λ (v : Pair). v.1) e, subst (λ (v : Pair). WasReached r v.0) (sym e) reached)
-
-lands-among : (r : ReachedStates) (at : ℕ) (w : Pair) (es : List ℕ) → All (WasReached r) es
-    → In w (map (λ next. (next, at)) es) → (w.1 ≡ at) × WasReached r w.0
-lands-among r at w [] all i = absurd i
-lands-among r at w (e ∷ es) all (inl same) = lands r e at w same (all 0 e (omega arith))
-lands-among r at w (e ∷ es) all (inr i) = lands-among r at w es (λ k d h. all (suc k) d (omega arith)) i
-
--- a state that reads only admitted bytes leads nowhere on a byte that is refused
-no-target : (table : List Bool) (x : Search) (node : Node) (at : ℕ) → IsRefused table x at
-    → ((b t : ℕ) → target_on node b ≡ Some t → Admits table b)
-    → (w : Pair) → In w (option_to_list (option_and_then (λ b. option_map (λ next. (next, at + 1)) (target_on node b))
-    (byte_at x at))) → ⊥
-no-target table x node at f admits w i =
-    (grind arith)
 
 module _ (r : ReachedStates) (table : List Bool) (x : Search) (at : ℕ) (f : IsRefused table x at) where
   edge-lands : (node : Node) → Covers r table node → (w : Pair) → In w (edges_of x node at)
       → (w.1 ≡ at) × WasReached r w.0
   edge-lands node c w i =
-      elim (cases_Bool (rests node)) [
-        | inl r ↦ absurd (no-target table x node at f c.admits w (rw (resting-edges x node at r) at i))
-        | inr leads ↦
+      elim (edge-is x node at w i) [
+        | inl stays ↦
+            let states = epsilon_states (holding_at x.haystack at) node in
             let all = epsilon-all (WasReached r) (holding_at x.haystack at) node c.leads in
-            lands-among r at w _ all (rw (epsilon-edges x node at leads) at i)
+            (stays.0, All-In (WasReached r) states all w.0 stays.1)
+        | inr over ↦ let admitted = c.admits over.byte w.0 over.target in absurd (grind (arith, f.read, over.is))
       ]
 
 no-match : (r : ReachedStates) (table : List Bool) (node : Node) → Covers r table node

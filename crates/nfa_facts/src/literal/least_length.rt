@@ -1,5 +1,5 @@
 //! How many bytes each match of an NFA has at least.
-ghost use Rattle.std.specs.Prelude.{◌≡◌, ◌<◌, ◌≤◌, All, IfOk, IfSome, length, slice_index_or};
+ghost use Rattle.std.specs.Prelude.{◌≡◌, ◌<◌, ◌≤◌, All, IfOk, IfSome, length, slice_index_or, true};
 ghost use Rattle.thompson_nfa.specs.Automaton.{LeadsBelow, node_of};
 ghost use Rattle.nfa_facts.specs.LeastLengths.{AreLeastLengths, HasLeast, IsLeastOf};
 
@@ -7,33 +7,44 @@ use regex_search_core::StateID;
 use std::alloc::{AllocError, Global};
 use thompson_nfa::{NFA, State, Transition};
 
-/// How often the states are gone through. Once is enough for a pattern without loops, since the compiler numbers what
-/// follows a part before the part. Where a loop starts, each further time counts one more turn of it, up to the bytes
-/// that follow the loop.
-const ROUNDS: usize = 3;
-
-/// Returns a number of bytes that each match of the NFA has at least, wherever it starts: at most 255. It does not
-/// cover `Anchored::Pattern`, whose searches begin with another state. The only error is that an allocation failed.
+/// Returns a number of bytes that each match of the NFA has at least, wherever it starts: at most 255. It is 0 unless each
+/// state's number is known once those of lower states are, as in each NFA that is compiled: what follows a part is
+/// numbered before the part. It does not cover `Anchored::Pattern`, whose searches begin with another state. The only
+/// error is that an allocation failed.
 pub(crate) fn least_length(alloc: Global, nfa: &NFA) -> Result<usize, AllocError>
     ensures { IfOk result (HasLeast nfa.now) }
 {
-    let mut lengths = vec![in alloc; 0; nfa.states().len()]?;
-    for _ in 0..ROUNDS {
-        raise_all(&mut lengths, nfa);
+    let mut lengths = vec![in alloc; u8::MAX; nfa.states().len()]?;
+    lower_all(&mut lengths, nfa);
+    if !are_least_lengths(&lengths, nfa) {
+        return Ok(0);
     }
     Ok(length_of(&lengths, nfa.start_anchored()) as usize)
 }
 
-/// Raises the number of each state as far as those of its targets allow, from the first state to the last.
-fn raise_all(lengths: &mut [u8], nfa: &NFA)
-    requires { AreLeastLengths nfa.now lengths.old }
-    ensures { AreLeastLengths nfa.now lengths.new }
+/// Sets the number of each state to what those of its targets allow, from the first state to the last.
+fn lower_all(lengths: &mut [u8], nfa: &NFA)
+    requires { length lengths.old ≡ length nfa.now.states }
+    ensures { length lengths.new ≡ length nfa.now.states }
 {
     let states = nfa.states();
     for index in 0..states.len() {
-        let least = least_from(lengths, &states[index]);
-        lengths[index] = least.max(lengths[index]);
+        lengths[index] = least_from(lengths, &states[index]);
     }
+}
+
+/// Whether no state's number is more than those of its targets allow.
+fn are_least_lengths(lengths: &[u8], nfa: &NFA) -> bool
+    requires { length lengths.now ≡ length nfa.now.states }
+    ensures { result ≡ true → AreLeastLengths nfa.now lengths.now }
+{
+    let states = nfa.states();
+    for index in 0..states.len() {
+        if lengths[index] > least_from(lengths, &states[index]) {
+            return false;
+        }
+    }
+    true
 }
 
 /// Returns the least number of bytes from the state to a match, if its targets have these numbers.

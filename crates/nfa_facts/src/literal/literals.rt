@@ -66,13 +66,13 @@ impl Literals {
     }
 
     /// Returns a position of the span before which no match starts, as far on as the literals say. Returns `None` if
-    /// they say that nothing matches, as where the span has fewer bytes than they know each match to have.
+    /// they say that nothing matches.
     ///
     /// It is the first one at which the prefix of each match occurs. If that has fewer than two bytes, and the bytes
     /// that matches may have at their first positions are rare in usual text, it is one up to the first with these.
     /// Otherwise, if there is no prefix, it is the first one whose byte a match may begin with, or the end of the span,
     /// if these bytes are at most three; and from there on the start of the line with the first bytes that each match
-    /// has, if there are such bytes. Requires that these are literals of the NFA, that neither the search nor the NFA
+    /// has, if there are such bytes. There is none then if the span has fewer bytes than each match is known to have. Requires that these are literals of the NFA, that neither the search nor the NFA
     /// is anchored, and that a match may end anywhere.
     ///
     /// ```
@@ -89,10 +89,6 @@ impl Literals {
         ensures within { IfSome result (λ at. at ≤ (search_of input.now).end + 1) }
     {
         bytes_may_be_skipped();
-        no_match_in_fewer_bytes();
-        if input.get_span().len() < self.least {
-            return None;
-        }
         self.next_start(nfa, input, input.start())
     }
 
@@ -126,7 +122,7 @@ impl Literals {
         self.levels.is_none() && self.prefix.is_empty() && self.required.is_none()
     }
 
-    /// Returns such a position, as far as the first bytes and the required ones say. A call of its own, so that a
+    /// Returns such a position, as far as the length, the first bytes and the required ones say. A call of its own, so that a
     /// search for a prefix saves no registers.
     #[inline(never)]
     fn next_begin(&self, nfa: &NFA, input: &Input<'_>, from: usize) -> Option<usize>
@@ -141,6 +137,10 @@ impl Literals {
         bytes_may_be_skipped();
         starts_without_required_bytes_may_be_passed();
         no_match_without_required_bytes();
+        no_match_in_fewer_bytes();
+        if input.get_span().len() < self.least {
+            return None;
+        }
         let (haystack, end) = (input.haystack(), input.end());
         let at = self.first.next(haystack, from, end);
         match &self.required {

@@ -1,7 +1,7 @@
 -- A position with a byte that no match begins with is skipped.
 use Rattle.std.proofs.Common.{◌<◌, ◌≤◌, length, get_or, arith}
 use Rattle.nfa_engines.specs.Search.{search_of}
-use Rattle.callers.proofs.PathStateLemmas.{read-inside}
+use Rattle.nfa_paths.proofs.StartLemmas.{byte_at-inside}
 use Rattle.callers.proofs.places.first_candidate.Goals as goal
 
 pub loop-at-preserved : goal.loop-at-preserved
@@ -16,6 +16,6 @@ loop-at-preserved c =
     record {
       first =
           c.bytes_may_be_skipped.ensures.moves c.args.vm.now.nfa x c.loop-at.at byte c.loop-at.invariant.first
-          (read-inside x c.loop-at.at inside fits) none;
+          (byte_at-inside x c.loop-at.at inside fits) none;
       within = omega arith;
     }

@@ -1,5 +1,5 @@
 -- The start joins the states, or starts that are refused are passed over.
-use Rattle.nfa_scan_core.proofs.FirstLemmas.{byte_at-inside}
+use Rattle.nfa_paths.proofs.StartLemmas.{byte_at-inside}
 use Rattle.nfa_pikevm_scan.proofs.RowLemmas.{AddsStart-passes, none_of}
 use Rattle.nfa_pikevm_scan.proofs.scan.add_start_or_skip.Goals as goal
 use Rattle.nfa_pikevm_scan.proofs.Common.{Active, IsRefused, ap, arith, get_or, inr, length, refl, search_of, sym, ◌<◌, ◌∙◌, ◌≤◌}

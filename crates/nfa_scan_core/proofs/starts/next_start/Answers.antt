@@ -1,7 +1,7 @@
 -- The first position that is not skipped.
 use Rattle.nfa_paths.proofs.Common.{◌≡◌, ◌≤◌, ◌<◌, length, get_or, arith, inl, inr, cases_lt, search_of}
 use Rattle.nfa_scan_core.specs.FirstBytes.{IsRefused}
-use Rattle.nfa_scan_core.proofs.FirstLemmas.{byte_at-inside}
+use Rattle.nfa_paths.proofs.StartLemmas.{byte_at-inside}
 use Rattle.nfa_scan_core.proofs.starts.next_start.Goals as goal
 
 pub loop-at-preserved : goal.loop-at-preserved

@@ -1,6 +1,6 @@
 -- A position with a byte that no match begins with is skipped.
 use Rattle.nfa_paths.proofs.Common.{◌<◌, ◌≤◌, length, get_or, arith, search_of}
-use Rattle.nfa_meta.proofs.AnchoredLemmas.{read-inside}
+use Rattle.nfa_paths.proofs.StartLemmas.{byte_at-inside}
 use Rattle.nfa_meta.proofs.regex.Regex.next_start.Goals as goal
 
 pub loop-at-preserved : goal.loop-at-preserved
@@ -15,6 +15,6 @@ loop-at-preserved c =
     record {
       first =
           c.bytes_may_be_skipped.ensures.moves c.args.self.now.choice.nfa x c.loop-at.at byte c.loop-at.invariant.first
-          (read-inside x c.loop-at.at inside fits) none;
+          (byte_at-inside x c.loop-at.at inside fits) none;
       within = omega arith;
     }

@@ -1,8 +1,9 @@
 -- The step is known and writes no slot, so the walk goes on.
 use Rattle.nfa_paths.proofs.Common.{◌≡◌, ◌<◌, ◌+◌, ℕ, arith, get_or, rules, search_of, subst, sym}
 use Rattle.nfa_paths.specs.Exploring.{Slots}
+use Rattle.nfa_paths.proofs.StartLemmas.{byte_at-inside}
 use Rattle.nfa_onepass.specs.Tables.{IsWalking}
-use Rattle.nfa_onepass.proofs.TableLemmas.{IsWalking-goes, byte-here, has-step, step-inside}
+use Rattle.nfa_onepass.proofs.TableLemmas.{IsWalking-goes, has-step, step-inside}
 use Rattle.nfa_onepass.proofs.table.OnePass.pass.Goals as goal
 
 pub loop-at-preserved-then-cell-row : goal.loop-at-preserved-then-cell-row
@@ -23,7 +24,7 @@ loop-at-preserved-then-cell-row c =
     let goes : (slots : Slots) → IsWalking nfa x t c.args.first c.args.from slots
     → IsWalking nfa x t cell.goal (at + 1) slots = λ slots w.
     IsWalking-goes nfa x t row (get_or x.haystack at 0) at cell slots c.requires.own
-    (byte-here x at inside c.args.input.now.within) has none (c.loop-at.invariant.walking slots w) in
+    (byte_at-inside x at inside c.args.input.now.within) has none (c.loop-at.invariant.walking slots w) in
     let stays : (slots : Slots) → IsWalking nfa x t cell.goal (at + 1) slots
     → IsWalking nfa x t cell.goal c.stay-at.result slots =
     subst (λ (r : ℕ). (slots : Slots) → IsWalking nfa x t r (at + 1) slots
@@ -54,5 +55,5 @@ loop-at-preserved c =
       high = omega (arith, inside);
       inside = step-inside nfa t row (get_or x.haystack at 0) cell c.requires.own has c.loop-at.invariant.inside;
       walking = λ slots w. IsWalking-goes nfa x t row (get_or x.haystack at 0) at cell slots c.requires.own
-          (byte-here x at inside c.args.input.now.within) has none (c.loop-at.invariant.walking slots w);
+          (byte_at-inside x at inside c.args.input.now.within) has none (c.loop-at.invariant.walking slots w);
     }

@@ -1,7 +1,8 @@
 -- The step leads back to the row and writes no slot, so the walk stays.
 use Rattle.nfa_paths.proofs.Common.{◌≡◌, ◌<◌, ◌+◌, ℕ, arith, get_or, rules, search_of, subst}
+use Rattle.nfa_paths.proofs.StartLemmas.{byte_at-inside}
 use Rattle.nfa_onepass.specs.Tables.{IsWalking}
-use Rattle.nfa_onepass.proofs.TableLemmas.{IsWalking-goes, byte-here, has-step}
+use Rattle.nfa_onepass.proofs.TableLemmas.{IsWalking-goes, has-step}
 use Rattle.nfa_onepass.proofs.table.OnePass.stay.Goals as goal
 
 pub loop-at-preserved : goal.loop-at-preserved
@@ -25,5 +26,5 @@ loop-at-preserved c =
       high = omega (arith, inside);
       walking = λ slots w. subst (λ (r : ℕ). IsWalking nfa x t r (at + 1) slots) back
           (IsWalking-goes nfa x t row (get_or x.haystack at 0) at cell slots c.requires.own
-          (byte-here x at inside c.args.input.now.within) has none (c.loop-at.invariant.walking slots w));
+          (byte_at-inside x at inside c.args.input.now.within) has none (c.loop-at.invariant.walking slots w));
     }
