@@ -7,15 +7,20 @@ use regex_search_core::StateID;
 use std::alloc::{AllocError, Global};
 use thompson_nfa::{NFA, State, Transition};
 
-/// Returns a number of bytes that each match of the NFA has at least, wherever it starts: at most 255. It is 0 unless each
-/// state's number is known once those of lower states are, as in each NFA that is compiled: what follows a part is
-/// numbered before the part. It does not cover `Anchored::Pattern`, whose searches begin with another state. The only
-/// error is that an allocation failed.
+/// How often the numbers of all states are set. Twice is enough for what the compiler makes: it numbers what follows a
+/// part before the part, but for the match itself.
+const ROUNDS: usize = 2;
+
+/// Returns a number of bytes that each match of the NFA has at least, wherever it starts: at most 255. It is 0 if the
+/// numbers are not settled after a few rounds, as may be if an NFA is made by hand. It does not cover
+/// `Anchored::Pattern`, whose searches begin with another state. The only error is that an allocation failed.
 pub(crate) fn least_length(alloc: Global, nfa: &NFA) -> Result<usize, AllocError>
     ensures { IfOk result (HasLeast nfa.now) }
 {
     let mut lengths = vec![in alloc; u8::MAX; nfa.states().len()]?;
-    lower_all(&mut lengths, nfa);
+    for _ in 0..ROUNDS {
+        lower_all(&mut lengths, nfa);
+    }
     if !are_least_lengths(&lengths, nfa) {
         return Ok(0);
     }

@@ -72,7 +72,8 @@ impl Literals {
     /// that matches may have at their first positions are rare in usual text, it is one up to the first with these.
     /// Otherwise, if there is no prefix, it is the first one whose byte a match may begin with, or the end of the span,
     /// if these bytes are at most three; and from there on the start of the line with the first bytes that each match
-    /// has, if there are such bytes. There is none then if the span has fewer bytes than each match is known to have. Requires that these are literals of the NFA, that neither the search nor the NFA
+    /// has, if there are such bytes. Unless a prefix of one byte is looked for, there is none if the span has fewer
+    /// bytes than each match is known to have. Requires that these are literals of the NFA, that neither the search nor the NFA
     /// is anchored, and that a match may end anywhere.
     ///
     /// ```
@@ -105,14 +106,18 @@ impl Literals {
         bytes_may_be_skipped();
         starts_without_prefix_may_be_passed();
         no_match_without_prefix();
+        no_match_in_fewer_bytes();
         let (haystack, end) = (input.haystack(), input.end());
-        if let Some(levels) = &self.levels {
-            return levels.first_start(haystack, from, end);
-        }
-        if !self.prefix.is_empty() {
+        if self.levels.is_none() && !self.prefix.is_empty() {
             return find_prefix(haystack, from, end, &self.prefix);
         }
-        self.next_begin(nfa, input, from)
+        if input.get_span().len() < self.least {
+            return None;
+        }
+        match &self.levels {
+            Some(levels) => levels.first_start(haystack, from, end),
+            None => self.next_begin(nfa, input, from),
+        }
     }
 
     /// Whether only the first byte of a match says where one may start: no prefix, and no byte that each match has, is
@@ -122,7 +127,7 @@ impl Literals {
         self.levels.is_none() && self.prefix.is_empty() && self.required.is_none()
     }
 
-    /// Returns such a position, as far as the length, the first bytes and the required ones say. A call of its own, so that a
+    /// Returns such a position, as far as the first bytes and the required ones say. A call of its own, so that a
     /// search for a prefix saves no registers.
     #[inline(never)]
     fn next_begin(&self, nfa: &NFA, input: &Input<'_>, from: usize) -> Option<usize>
@@ -137,10 +142,6 @@ impl Literals {
         bytes_may_be_skipped();
         starts_without_required_bytes_may_be_passed();
         no_match_without_required_bytes();
-        no_match_in_fewer_bytes();
-        if input.get_span().len() < self.least {
-            return None;
-        }
         let (haystack, end) = (input.haystack(), input.end());
         let at = self.first.next(haystack, from, end);
         match &self.required {

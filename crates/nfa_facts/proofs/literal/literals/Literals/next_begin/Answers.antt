@@ -1,18 +1,9 @@
--- No match has more bytes than the span, starts before the bytes that matches may begin with, or before the line of a
--- byte that each match has.
-use Rattle.nfa_paths.proofs.Common.{◌+◌, ◌≤◌, All, IfSome, ◌<◌, arith, length, search_of, subst}
+-- No match starts before the bytes that matches may begin with, or before the line of a byte that each match has.
+use Rattle.nfa_paths.proofs.Common.{◌≤◌, All, IfSome, ◌<◌, arith, length, search_of, subst}
 use Rattle.nfa_engines.specs.StartLaws.{IsFirstStart}
 use Rattle.nfa_facts.specs.RequiredBytes.{IsRequired}
 use Rattle.nfa_facts.proofs.FewLemmas.{none-then, others-passed, some-then}
 use Rattle.nfa_facts.proofs.literal.literals.Literals.next_begin.Goals as goal
-
-pub returns-then-len-self-clause-nothing : goal.returns-then-len-self-clause-nothing
-returns-then-len-self-clause-nothing c =
-    let x = search_of c.args.input.now in
-    let least = c.args.self.now.least in
-    let fewer : x.end < x.start + least =
-    omega (arith, c.if-len-self.true, c.len.ensures, c.get_span.ensures.start, c.get_span.ensures.end) in
-    c.no_match_in_fewer_bytes.ensures c.args.nfa.now x least c.requires.unbound c.requires.of.least fewer
 
 pub returns-in-None-clause-first : goal.returns-in-None-clause-first
 returns-in-None-clause-first c =

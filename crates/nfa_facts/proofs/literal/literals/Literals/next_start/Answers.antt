@@ -1,5 +1,5 @@
--- No match starts before the bytes that each match begins with.
-use Rattle.nfa_paths.proofs.Common.{◌<◌, ◌≤◌, All, IfSome, arith, length, search_of, subst}
+-- No match starts before the bytes that each match begins with, or has more bytes than the span.
+use Rattle.nfa_paths.proofs.Common.{◌+◌, ◌<◌, ◌≤◌, All, IfSome, arith, length, search_of, subst}
 use Rattle.nfa_facts.specs.Levels.{AdmitsMatches}
 use Rattle.nfa_facts.proofs.FewLemmas.{none-then, some-then}
 use Rattle.nfa_facts.proofs.LevelLemmas.{first-to-admitted, nothing-admitted}
@@ -24,6 +24,14 @@ returns-then-not-is_empty-clause-first c =
     c.requires.of.begins c.requires.first here)
     (rw c.haystack-haystack.ensures at (rw c.end-end.ensures.value at (rw c.deref.ensures.value at
     c.find_prefix.ensures.first)))
+
+pub returns-then-len-self-clause-nothing : goal.returns-then-len-self-clause-nothing
+returns-then-len-self-clause-nothing c =
+    let x = search_of c.args.input.now in
+    let least = c.args.self.now.least in
+    let fewer : x.end < x.start + least =
+    omega (arith, c.if-len-self.true, c.len.ensures, c.get_span.ensures.start, c.get_span.ensures.end) in
+    c.no_match_in_fewer_bytes.ensures c.args.nfa.now x least c.requires.unbound c.requires.of.least fewer
 
 pub returns-in-Some-clause-nothing : goal.returns-in-Some-clause-nothing
 returns-in-Some-clause-nothing c =
