@@ -1,5 +1,6 @@
 """The one way in which the scripts run programs, those that `rt ci` has built and that of `tests`: with arguments, an input,
 and faults of a library that is loaded before a program's own (`faults.c`); and compare what they write."""
+import contextlib
 import functools
 import os
 import pathlib
@@ -30,6 +31,15 @@ def faults():
     made = f'{room.name}/faults.so'
     subprocess.run([compiler, '-O1', '-shared', '-fPIC', '-nostdlib', '-o', made, str(here / 'faults.c')], check=True)
     return made
+
+
+def shown(terminal):
+    """Returns all that was written to a terminal whose other end is closed, which may take several reads, and closes it."""
+    parts = []
+    with open(terminal, 'rb', buffering=0) as file, contextlib.suppress(OSError):
+        while part := file.read(1000):
+            parts.append(part)
+    return b''.join(parts)
 
 
 @functools.cache
