@@ -117,8 +117,8 @@ pub reads-give : (syntax : Config) (text : List ℕ) (hir : Hir) (own : Names) �
 unfolding Reads
 reads-give syntax text hir own reads Q is = grind (arith, nat_tests)
 
-pub meant : (syntax : Config) (text : List ℕ) (tree : Parsed) (re : Re) → IsTreeOf syntax text tree → IsMeant syntax text re
-    → SameCaptures (meaning tree.hir) re
+pub meant : (syntax : Config) (text : List ℕ) (tree : Parsed) (re : Re) → IsTreeOf syntax text tree
+    → IsMeant syntax text re → SameCaptures (meaning tree.hir) re
 meant syntax text tree re read is = grind (arith, nat_tests, reads-give)
 
 -- the trees that are read from texts, and what the texts mean

@@ -144,7 +144,8 @@ module _ (dfa : DFA) (x : Search) where
       let next : IsNext dfa.nfa dfa.kind here.stance byte t =
       subst (λ (s : Stance). IsNext dfa.nfa dfa.kind s byte t) from
       (subst (IsNext dfa.nfa dfa.kind leads.from byte) to leads.next) in
-      let both = stance-next at byte inside (byte_at-inside x at inside within) here.stance t here.low here.stands next in
+      let read = byte_at-inside x at inside within in
+      let both = stance-next at byte inside read here.stance t here.low here.stands next in
       let low : x.start ≤ at = here.low in
       (record { stance = t; is = known; low = omega arith; high = omega arith; stands = both.0 }, both.1)
 

@@ -73,8 +73,8 @@ impl Literals {
     /// Otherwise, if there is no prefix, it is the first one whose byte a match may begin with, or the end of the span,
     /// if these bytes are at most three; and from there on the start of the line with the first bytes that each match
     /// has, if there are such bytes. Unless a prefix of one byte is looked for, there is none if the span has fewer
-    /// bytes than each match is known to have. Requires that these are literals of the NFA, that neither the search nor the NFA
-    /// is anchored, and that a match may end anywhere.
+    /// bytes than each match is known to have. Requires that these are literals of the NFA, that neither the search nor
+    /// the NFA is anchored, and that a match may end anywhere.
     ///
     /// ```
     /// // NFA of "foo[0-9]+", and its literals
